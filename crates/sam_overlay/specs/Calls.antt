@@ -19,7 +19,7 @@ use Rattle.sam_endpoint.specs.declared.fault.TermStop.{TermStop}
 use Rattle.sam_endpoint.specs.declared.step.BringFault.{BringFault}
 use Rattle.sam_endpoint.specs.declared.step.BringFault.TheVariants as bring
 use Rattle.sam_overlay.specs.Effects.{cells_after}
-use Rattle.sam_overlay.specs.Outcomes.{IsBehind, LacksRoom, LayerDrops, has_edit}
+use Rattle.sam_overlay.specs.Outcomes.{LacksRoom, LayerDrops, has_edit}
 use Rattle.sam_overlay.specs.Overlays.{AreOver, AreRequests, IsPutting, cells_of_file, edit_event, is_received, step_effect}
 use Rattle.sam_overlay.specs.Requests.{concerns}
 use Rattle.sam_overlay.specs.declared.fault.ReplaceFault.{ReplaceFault}
@@ -188,17 +188,22 @@ pub record CanAct (o : PlainOverlay) (event : UserEvent) (g : ℕ) : Type 0 wher
 abbrev pub FindsText : PlainOverlay → UserEvent → ℕ → Type 0
 FindsText o event g = (f : ℕ) → f < 2 ^ 16 → concerns event f ≡ true → rasp_at o.end.term f ≡ text_at g (cells_at o f)
 
+-- edits wait over file f, and none is left to put of the groups up to the limit: all of them stand behind it
+abbrev pub IsBehind : Option ℕ → PlainOverlay → ℕ → Type 0
+IsBehind None o f = ⊥
+IsBehind (Some g) o f = (has_edit_at o f ≡ true) × IsPutUpTo g (cells_at o f)
+
 -- what to put an edit that waits over file f, of the groups up to a limit, leads to: nothing waits over it; or an edit can't act at once,
--- or what waits stands behind the limit; or the next edit was put, alone, and the next step has it act; or why it isn't, and all is as
--- before
+-- or what waits stands behind the limit; or one can, and the next edit was put, alone, and the next step has it act; or why it isn't, and
+-- all is as before
 abbrev pub PutsUpTo : Option ℕ → PlainOverlay → ℕ → Result Put PutFault → PlainOverlay → Type 0
 PutsUpTo m o f (Ok put.Nothing) n =
     (has_edit_at o f ≡ false) × (n.end ≡ o.end) × (n.putting ≡ o.putting) × (slot n.layers f ≡ None)
     × ((g : ℕ) → cells_at n g ≡ cells_at o g)
-PutsUpTo m o f (Ok put.NotFree) n = (n ≡ o) × ((o.putting ≡ None) → IsFree o.end f → IsBehind m (slot o.layers f))
+PutsUpTo m o f (Ok put.NotFree) n = (n ≡ o) × ((o.putting ≡ None) → IsFree o.end f → IsBehind m o f)
 PutsUpTo m o f (Ok put.Edit) n =
-    (l : Layer) × (e : Edit) × (slot o.layers f ≡ Some l) × (next_edit m l ≡ Some e) × BringsEvent o.end (edit_event f e) (Ok tt) n.end
-    × (n.layers ≡ o.layers) × (n.putting ≡ Some f)
+    IsFree o.end f × (l : Layer) × (e : Edit) × (slot o.layers f ≡ Some l) × (next_edit m l ≡ Some e)
+    × BringsEvent o.end (edit_event f e) (Ok tt) n.end × (n.layers ≡ o.layers) × (n.putting ≡ Some f)
 PutsUpTo m o f (Err (unput.Stopped why)) n = (o.end.stop ≡ Some why) × (n ≡ o)
 PutsUpTo m o f (Err unput.TooLong) n = (l : Layer) × (slot o.layers f ≡ Some l) × (max_runes < rasp_length (next_made m l)) × (n ≡ o)
 PutsUpTo m o f (Err unput.CountFull) n = (o.end.events ≡ 2 ^ 64 - 1) × (n ≡ o)

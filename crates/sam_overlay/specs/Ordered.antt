@@ -6,7 +6,7 @@ use Rattle.sam_pending.specs.Cells.{Cell, text_at}
 use Rattle.sam_term.specs.declared.event.UserEvent.{UserEvent}
 use Rattle.sam_term.specs.declared.event.UserEvent.TheVariants as event
 use Rattle.sam_endpoint.specs.TermStepping.{BringsEvent}
-use Rattle.sam_overlay.specs.Calls.{CanAct, FindsText, Keeps, cells_at, replace_checks, shown_at}
+use Rattle.sam_overlay.specs.Calls.{CanAct, FindsText, Keeps, cells_at, new_overlay, replace_checks, shown_at}
 use Rattle.sam_overlay.specs.Outcomes.{newest_in, newest_over}
 use Rattle.sam_overlay.specs.Requests.{is_closing, is_leaving, next_group, shared_write}
 use Rattle.sam_overlay.specs.declared.fault.ReplaceFault.{ReplaceFault}
@@ -23,6 +23,9 @@ use Rattle.sam_overlay.specs.declared.shown_change.Turn.TheVariants as turn
 -- so many requests wait at most
 abbrev pub most_waiting_requests : ℕ
 most_waiting_requests = 1_000
+
+abbrev pub new_ordered : OrderedOverlay
+new_ordered = record { alloc = _; overlay = new_overlay; queue = [] }
 
 -- ## Edits
 

@@ -6,7 +6,7 @@ use Rattle.sam_runes.specs.declared.edit.Edit.{Edit}
 use Rattle.sam_pending.specs.Cells.{PartialText, Cell, IsMade, IsNewest, all_put, put, rasp_of, replaced, resting, shown_of}
 use Rattle.sam_pending.specs.Groups.{IsMadeBy, IsPutUpTo}
 use Rattle.sam_pending.specs.Layers.{Layer, DropsNext, IsLayer, IsOver, cells_over, first_dropped, newest_group, next_edit, next_made, rasp_length, with_runs}
-use Rattle.sam_pending.specs.Runs.{edit_change, filling_changes, has_next, removal_changes, rests}
+use Rattle.sam_pending.specs.Runs.{edit_change, filling_changes, removal_changes, rests}
 use Rattle.sam_pending.specs.declared.fault.PendingFault.{PendingFault}
 use Rattle.sam_pending.specs.declared.fault.PendingFault.TheVariants as failed
 use Rattle.sam_pending.specs.declared.run.Run.{Run}
@@ -122,19 +122,9 @@ abbrev pub IsNextKept : Slots Layer → ℕ → Option ℕ → Type 0
 IsNextKept ls from None = NoneKept ls from (2 ^ 16)
 IsNextKept ls from (Some f) = (from ≤ f) × (is_some (slot ls f) ≡ true) × NoneKept ls from f
 
--- an edit of the groups up to a limit waits
-abbrev pub has_edit_to : Option ℕ → Option Layer → Bool
-has_edit_to m None = false
-has_edit_to m (Some l) = has_next m l.runs
-
 -- over whatever rasp, none of these is left to put exactly if that is so of each cell
 abbrev pub SaysLeft : ℕ → Option Layer → Bool → Type 0
 SaysLeft g o is_left = (r : PartialText) → IsOverRasp r o → (is_left ≡ false) ↔ IsPutUpTo g (cells_in r o)
-
--- edits wait, and all of them stand behind the limit
-abbrev pub IsBehind : Option ℕ → Option Layer → Type 0
-IsBehind None o = ⊥
-IsBehind (Some g) o = (has_edit o ≡ true) × (has_edit_to (Some g) o ≡ false)
 
 -- the newest group that waits over any file; 0 where none does
 abbrev pub newest_in : Option Layer → ℕ

@@ -1,10 +1,11 @@
 //! `OrderedOverlay`: an overlay whose requests stand in one order with the edits.
 
-ghost use Rattle.std.specs.Prelude.{◌≡◌, ◌≢◌, ◌⊎◌, ◌↔◌, ◌<◌, ◌≤◌, ◌^◌, ◌-◌, ℕ, [], drop, length, slice_get, IsTrue, is_some, true, Some, None, Ok, Err, IfErr, IfOk, OnErr, OnOk};
+ghost use Rattle.std.specs.Prelude.{◌≡◌, ◌≢◌, ◌⊎◌, ◌↔◌, ◌<◌, ◌≤◌, ◌^◌, ◌-◌, ℕ, [], drop, length, slice_get, IsTrue, is_some, true, Some, None, Ok, Err, IfErr, IfOk, IfSome, OnErr, OnOk};
 ghost use Rattle.sam_runes.specs.Checks.{first_of_checks};
+ghost use Rattle.sam_pending.specs.Cells.{IsTakenBack};
 ghost use Rattle.sam_endpoint.specs.TermStepping.{Steps};
-ghost use Rattle.sam_overlay.specs.Calls.{Brings, CellsGo, DropsUpTo, Keeps, KeepsTexts, PutsUpTo, cells_at, new_overlay, shown_at};
-ghost use Rattle.sam_overlay.specs.Ordered.{ActsNext, IsAsked, NoneFinds, closing_group, most_waiting_requests, ordered_checks, shared_with};
+ghost use Rattle.sam_overlay.specs.Calls.{Brings, CellsGo, DropsUpTo, Keeps, KeepsTexts, PutsUpTo, cells_at, shown_at};
+ghost use Rattle.sam_overlay.specs.Ordered.{ActsNext, IsAsked, NoneFinds, closing_group, most_waiting_requests, new_ordered, ordered_checks, shared_with};
 ghost use Rattle.sam_overlay.specs.Outcomes.{Leads, Replaces};
 ghost use Rattle.sam_overlay.specs.Overlays.{StopsOnly, end_step, is_request, told_at};
 ghost use Rattle.sam_overlay.specs.Requests.{put_limit};
@@ -52,8 +53,7 @@ pub struct OrderedOverlay {
 impl OrderedOverlay {
     /// Makes one over a terminal that knows no file. It takes no memory.
     pub fn new(alloc: Global) -> OrderedOverlay
-        ensures overlay { result.overlay ≡ new_overlay }
-        ensures queue { result.queue ≡ [] }
+        ensures { result ≡ new_ordered }
     {
         OrderedOverlay {
             alloc,
@@ -200,6 +200,8 @@ impl OrderedOverlay {
     /// The only error is `OutOfMemory`; after it all is as before.
     pub fn drop_next(&mut self, tag: u16) -> Result<Option<Dropped>, PendingFault>
         ensures drops { DropsUpTo (put_limit self.old.queue tag) self.old.overlay tag result self.new.overlay }
+        ensures cells { IfOk result (λ x. IfSome x (λ d.
+            IsTakenBack (cells_at self.old.overlay tag) d.place d.count d.text (cells_at self.new.overlay tag))) }
         ensures queue { self.new.queue ≡ self.old.queue }
     {
         let limit = self.queue.limit(tag);
