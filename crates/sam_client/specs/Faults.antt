@@ -34,3 +34,10 @@ put_fault (unput.Stopped why) = Some (Stopped why)
 put_fault unput.TooLong = None
 put_fault unput.CountFull = Some CountFull
 put_fault unput.OutOfMemory = Some OutOfMemory
+
+-- why a request did not act: that a text would be too long is never why
+abbrev pub act_fault : PutFault → GoOnFault
+act_fault (unput.Stopped why) = Stopped why
+act_fault unput.TooLong = OutOfMemory
+act_fault unput.CountFull = CountFull
+act_fault unput.OutOfMemory = OutOfMemory

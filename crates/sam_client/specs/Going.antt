@@ -2,6 +2,8 @@
 use Rattle.std.specs.Prelude.{◌≡◌, ◌⊎◌, ℕ, ◌+◌, ◌^◌, ◌<◌, ◌≤◌, List, [], ◌∷◌, Bool, true, false, not, Option, Some, None, Result, Ok, Err, if◌then◌else◌, is_some, option_map}
 use Rattle.sam_link.specs.Inbox.{Waiting, ready}
 use Rattle.sam_line.specs.declared.line.Line.{Line}
+use Rattle.sam_pending.specs.Cells.{resting}
+use Rattle.sam_pending.specs.Groups.{IsPutUpTo}
 use Rattle.sam_pending.specs.Layers.{Layer, cells_over, next_made, rasp_length}
 use Rattle.sam_runes.specs.Slots.{slot}
 use Rattle.sam_runes.specs.Texts.{is_empty, max_runes}
@@ -10,13 +12,17 @@ use Rattle.sam_endpoint.specs.TermEndpoints.{IsQuiet, PlainTermEndpoint}
 use Rattle.sam_endpoint.specs.TermStepping.{IsReady}
 use Rattle.sam_endpoint.specs.declared.step.TermStep.{TermStep}
 use Rattle.sam_endpoint.specs.declared.step.TermStep.TheVariants.{Acted, Idle, Locked, Received, Refused, Wrote}
-use Rattle.sam_overlay.specs.Calls.{IsFree, PlainOverlay, cells_at, shown_at}
+use Rattle.sam_overlay.specs.Calls.{IsFree, PlainOverlay, cells_at}
+use Rattle.sam_overlay.specs.Ordered.{IsNotYet}
 use Rattle.sam_overlay.specs.Outcomes.{NoneKept}
+use Rattle.sam_overlay.specs.Requests.{put_limit}
+use Rattle.sam_overlay.specs.declared.ordered.OrderedOverlay.{OrderedOverlay}
 use Rattle.sam_overlay.specs.declared.shown_change.OverlayStep.{OverlayStep}
 use Rattle.sam_overlay.specs.declared.shown_change.Put.TheVariants as became
+use Rattle.sam_overlay.specs.declared.shown_change.Turn.TheVariants as turn
 use Rattle.sam_client.specs.Clients.{Act, Does, DoesAll}
-use Rattle.sam_client.specs.Clients.Act.{AskHost, Bring, Fetch, FetchNote, OfLine, PutEdit, Replace, Request, Send, SendNote, Step, TakeBack, TellRefusal}
-use Rattle.sam_client.specs.Faults.{bring_fault, put_fault, send_fault, step_fault}
+use Rattle.sam_client.specs.Clients.Act.{ActNext, AskHost, Bring, Fetch, FetchNote, OfLine, PutEdit, Replace, Request, Send, SendNote, Step, TakeBack, TellRefusal}
+use Rattle.sam_client.specs.Faults.{act_fault, bring_fault, put_fault, send_fault, step_fault}
 use Rattle.sam_client.specs.Packets.{next_note}
 use Rattle.sam_client.specs.declared.client.Client.{Client}
 use Rattle.sam_client.specs.declared.event.Event.{Event}
@@ -33,6 +39,7 @@ IsMove now (Request event answer) = ⊥
 IsMove now (TakeBack f answer) = ⊥
 IsMove now (TellRefusal oldest) = Unit {0}
 IsMove now (Step answer) = Unit {0}
+IsMove now (ActNext answer) = Unit {0}
 IsMove now (PutEdit f answer) = Unit {0}
 IsMove now (Send bytes time answer) = time ≡ now
 IsMove now (SendNote bytes time answer) = ⊥
@@ -60,6 +67,8 @@ tells (TellRefusal None) = None
 tells (TellRefusal (Some (number, why))) = Some (Ok (tell.Refused number why))
 tells (Step (Ok x)) = if is_told x.step then Some (Ok (tell.Stepped x)) else None
 tells (Step (Err why)) = Some (Err (step_fault why))
+tells (ActNext (Ok became)) = None
+tells (ActNext (Err why)) = Some (Err (act_fault why))
 tells (PutEdit f (Ok became)) = None
 tells (PutEdit f (Err why)) = option_map Err (put_fault why)
 tells (Send bytes now (Ok done)) = None
@@ -90,7 +99,7 @@ is_work_of_end (Received kind tag change) = true
 is_work_of_end (Acted number tag change) = true
 is_work_of_end (Refused number why) = true
 
--- the move did something: the end made a step, an edit was put, or bytes went from one part to the other
+-- the move did something: the end made a step, a request or an edit went to it, or bytes went from one part to the other
 abbrev pub is_work : Act → Bool
 is_work (OfLine call) = false
 is_work (Replace f p q s answer) = false
@@ -99,6 +108,10 @@ is_work (TakeBack f answer) = false
 is_work (TellRefusal oldest) = false
 is_work (Step (Ok x)) = is_work_of_end x.step
 is_work (Step (Err why)) = false
+is_work (ActNext (Ok turn.Nothing)) = false
+is_work (ActNext (Ok turn.NotYet)) = false
+is_work (ActNext (Ok turn.Request)) = true
+is_work (ActNext (Err why)) = false
 is_work (PutEdit f (Ok became.Nothing)) = false
 is_work (PutEdit f (Ok became.NotFree)) = false
 is_work (PutEdit f (Ok became.Edit)) = true
@@ -171,11 +184,27 @@ pub record EndRests (e : PlainTermEndpoint) : Type 0 where
   pub quiet : IsQuiet e.term
   pub told : e.refusals ≡ []
 
--- what waits over the file is put: what is shown is its rasp; or its text has no room for the next edit
-abbrev pub IsPut : PlainOverlay → ℕ → Type 0
-IsPut o f =
-    (shown_at o f ≡ rasp_at o.end.term f)
-    ⊎ ((l : Layer) × (cells_at o f ≡ cells_over (rasp_at o.end.term f) l) × (max_runes < rasp_length (next_made None l)))
+-- no request waits, or the oldest can't act yet
+abbrev pub NoneActs : OrderedOverlay → Type 0
+NoneActs o = (o.queue ≡ []) ⊎ IsNotYet o
+
+-- nothing waits over the file
+abbrev pub IsAllPut : PlainOverlay → ℕ → Type 0
+IsAllPut o f = cells_at o f ≡ resting (rasp_at o.end.term f)
+
+-- its text has no room for the next edit
+abbrev pub IsFull : OrderedOverlay → ℕ → Type 0
+IsFull o f =
+    (l : Layer) × (cells_at o.overlay f ≡ cells_over (rasp_at o.overlay.end.term f) l)
+    × (max_runes < rasp_length (next_made (put_limit o.queue f) l))
+
+-- a request that concerns it waits, and no edit before that is left to put
+abbrev pub IsPutToRequest : OrderedOverlay → ℕ → Type 0
+IsPutToRequest o f = (g : ℕ) × (put_limit o.queue f ≡ Some g) × IsPutUpTo g (cells_at o.overlay f)
+
+-- what may be put of the edits that wait over the file is put, as far as there is room
+abbrev pub IsPut : OrderedOverlay → ℕ → Type 0
+IsPut o f = IsAllPut o.overlay f ⊎ (IsFull o f ⊎ IsPutToRequest o f)
 
 -- that is the first tag from this one on for whose file a list of edits is kept, or past all
 abbrev pub IsNextTag : PlainOverlay → ℕ → ℕ → Type 0
@@ -183,18 +212,20 @@ IsNextTag o from tag =
     (from ≤ tag) × (tag ≤ 2 ^ 16) × NoneKept o.layers from tag × (tag < 2 ^ 16 → is_some (slot o.layers tag) ≡ true)
 
 -- so it is with each file whose edits can act
-abbrev pub AllPut : PlainOverlay → Type 0
-AllPut o = (f : ℕ) → f < 2 ^ 16 → IsFree o.end f → IsPut o f
+abbrev pub AllPut : OrderedOverlay → Type 0
+AllPut o = (f : ℕ) → f < 2 ^ 16 → IsFree o.overlay.end f → IsPut o f
 
 -- no byte is left of the packet in front, if it had some
 abbrev pub HasNoBytes : Line → Type 0
 HasNoBytes l = (w : Waiting) × (l.link.waiting ≡ ready w) × ((ready w).part ≡ [])
 
 pub record Rests (c : Client) : Type 0 where
-  pub end : EndRests c.overlay.end
-  pub putting : c.overlay.putting ≡ None
-  pub put : AllPut c.overlay
-  pub sent : c.overlay.end.pending_bytes ≡ []
+  pub end : EndRests c.ordered.overlay.end
+  pub putting : c.ordered.overlay.putting ≡ None
+  pub acts : NoneActs c.ordered
+  pub put : AllPut c.ordered
+  pub command : IsAllPut c.ordered.overlay 0
+  pub sent : c.ordered.overlay.end.pending_bytes ≡ []
   pub received : c.held ≡ []
   pub bytes : HasNoBytes c.line
   pub notes : next_note c.line ≡ None
@@ -215,33 +246,40 @@ step_event x = event_of x.step x
 
 -- the terminal's end has nothing to do
 pub record EndIdle (n : Client) : Type 0 where
-  pub rests : EndRests n.overlay.end
-  pub putting : n.overlay.putting ≡ None
+  pub rests : EndRests n.ordered.overlay.end
+  pub putting : n.ordered.overlay.putting ≡ None
 
--- the end is as before, and so is what is shown
-pub record Still (o n : PlainOverlay) : Type 0 where
-  pub end : n.end ≡ o.end
-  pub putting : n.putting ≡ o.putting
-  pub cells : (f : ℕ) → cells_at n f ≡ cells_at o f
+-- the end and the requests are as before, and so are the cells of each file
+pub record Still (o n : OrderedOverlay) : Type 0 where
+  pub end : n.overlay.end ≡ o.overlay.end
+  pub putting : n.overlay.putting ≡ o.overlay.putting
+  pub cells : (f : ℕ) → cells_at n.overlay f ≡ cells_at o.overlay f
+  pub queue : n.queue ≡ o.queue
+
+-- no request can act
+pub record RequestsIdle (c n : Client) : Type 0 where
+  pub same : n ≡ c
+  pub none : NoneActs c.ordered
 
 -- no edit of this file can be put
 pub record EditIdle (f : ℕ) (c n : Client) : Type 0 where
-  pub still : Still c.overlay n.overlay
-  pub put : n.overlay.putting ≡ None → IsFree n.overlay.end f → IsPut n.overlay f
+  pub still : Still c.ordered n.ordered
+  pub put : n.ordered.overlay.putting ≡ None → IsFree n.ordered.overlay.end f → IsPut n.ordered f
 
--- nor of any other
+-- nor of any other, and nothing waits over the command file
 pub record EditsIdle (c n : Client) : Type 0 where
-  pub still : Still c.overlay n.overlay
-  pub put : n.overlay.putting ≡ None → AllPut n.overlay
+  pub still : Still c.ordered n.ordered
+  pub put : n.ordered.overlay.putting ≡ None → AllPut n.ordered
+  pub command : IsAllPut n.ordered.overlay 0
 
 -- nothing is composed
 pub record OutIdle (c n : Client) : Type 0 where
   pub same : n ≡ c
-  pub sent : c.overlay.end.pending_bytes ≡ []
+  pub sent : c.ordered.overlay.end.pending_bytes ≡ []
 
 -- nothing leaves the line
 pub record InIdle (c n : Client) : Type 0 where
-  pub overlay : n.overlay ≡ c.overlay
+  pub ordered : n.ordered ≡ c.ordered
   pub received : n.held ≡ []
   pub bytes : HasNoBytes n.line
   pub notes : next_note n.line ≡ None

@@ -14,8 +14,8 @@ note_fault send.OutOfMemory = OutOfMemory
 
 -- all that the end composed went into the line, or there was nothing; or the line didn't take it
 abbrev pub SendsAll : Client → ℕ → Result (Unit {0}) SendFault → Client → Type 0
-SendsAll c now (Ok done) n = ((c.overlay.end.pending_bytes ≡ []) × (n ≡ c)) ⊎ Does c (Send c.overlay.end.pending_bytes now (Ok tt)) n
-SendsAll c now (Err why) n = Does c (Send c.overlay.end.pending_bytes now (Err why)) n
+SendsAll c now (Ok done) n = ((c.ordered.overlay.end.pending_bytes ≡ []) × (n ≡ c)) ⊎ Does c (Send c.ordered.overlay.end.pending_bytes now (Ok tt)) n
+SendsAll c now (Err why) n = Does c (Send c.ordered.overlay.end.pending_bytes now (Err why)) n
 
 -- behind that, the line took the note, or didn't
 abbrev pub SendsBehind : Client → List ℕ → ℕ → Result (Unit {0}) NoteFault → Client → Type 0

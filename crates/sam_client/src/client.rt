@@ -1,6 +1,6 @@
 //! The client: what the program calls.
 
-ghost use Rattle.std.specs.Prelude.{◌≡◌, ◌↔◌, IsTrue, false};
+ghost use Rattle.std.specs.Prelude.{◌≡◌, ◌↔◌, IsTrue, false, length};
 ghost use Rattle.sam_line.specs.Calls.LineCall.{Acknowledge, AddressChanged, Broken, Connected, Expect, NotConnected, Receive, TakeOut, TickAt};
 ghost use Rattle.sam_line.specs.Clock as clocks;
 ghost use Rattle.sam_line.specs.Line.{is_due};
@@ -12,20 +12,21 @@ ghost use Rattle.sam_client.specs.Delivery.{HasAll, HasSent, is_unsaved};
 ghost use Rattle.sam_client.specs.Clients.Act.{OfLine, Replace, Request, TakeBack};
 
 use crate::packet::Packet;
-use sam_endpoint::{BringFault, TermStop};
 use sam_line::{Line, ReceiveFault, Tick};
 use sam_link::{CallFault, Id, NotOpen, PutFault};
-use sam_overlay::{Overlay, ReplaceFault};
+use sam_overlay::{AskFault, OrderedOverlay, Overlay, ReplaceFault};
 use sam_pending::{Dropped, PendingFault};
 use sam_term::UserEvent;
 use std::alloc::Global;
 
-/// The terminal's side of a session: a terminal's end with edits that wait, and its line to the host. It has no input, output or clock of
-/// its own: the program makes connections, moves their bytes, hands in the time, in milliseconds of any clock, and shows what is told.
+/// The terminal's side of a session: a terminal's end with edits and requests that wait, and its line to the host. It has no input, output
+/// or clock of its own: the program makes connections, moves their bytes, hands in the time, in milliseconds of any clock, and shows what
+/// is told.
 ///
 /// ```rust
 /// let mut client = Client::new(alloc, id, false, now);
 /// client.replace(1, 5, 5, &['!'])?;                        // the user types, whatever is locked
+/// client.ask(UserEvent::Write(1))?;                        // and saves what is shown now
 /// client.receive(attempt, piece, now)?;                    // a connection brought bytes
 /// loop {
 ///     match client.go_on(now)? {
@@ -40,7 +41,7 @@ use std::alloc::Global;
 /// ```
 #[derive(Drop)]
 pub struct Client {
-    pub(crate) overlay: Overlay,
+    pub(crate) ordered: OrderedOverlay,
     pub(crate) line: Line,
     /// What left the line, and the terminal's end has not got.
     pub(crate) held: Packet,
@@ -55,7 +56,7 @@ impl Client {
         ensures { result ≡ new_client id take_over now }
     {
         Client {
-            overlay: Overlay::new(alloc),
+            ordered: OrderedOverlay::new(alloc),
             line: Line::new(alloc, id, take_over, now),
             held: Packet::new(),
             note: Packet::new(),
@@ -139,54 +140,57 @@ impl Client {
 
     // ---- What the user does
 
-    /// Puts `runes` in the place of what is shown of a file from place `p` to place `q`, as `Overlay::replace` does. It is shown at once,
-    /// whatever is locked, and goes to the host as the client goes on. Errors are those of that call, in its order; after each all is as
-    /// before.
+    /// Puts `runes` in the place of what is shown of a file from place `p` to place `q`, behind all requests that wait, as
+    /// `OrderedOverlay::replace` does. It is shown at once, whatever is locked, and goes to the host as the client goes on. Errors are those
+    /// of that call, in its order; after each all is as before.
     pub fn replace(&mut self, tag: u16, p: u32, q: u32, runes: &[char]) -> Result<(), ReplaceFault>
         ensures { Does self.old (Replace tag p q runes.now result) self.new }
     {
-        self.overlay.replace(tag, p, q, runes)
+        self.ordered.replace(tag, p, q, runes)
     }
 
-    /// Takes an event of the user that leaves each text but that of the command file (`is_request` of sam_overlay), as
-    /// `Overlay::bring_event` does. It acts as the client goes on. Errors are those of that call, in its order; after each all is as
-    /// before.
-    pub fn bring_event(&mut self, event: UserEvent) -> Result<(), BringFault<TermStop>>
+    /// Takes a request of the user in behind the others, as `OrderedOverlay::ask` does: an event that leaves each text but that of the
+    /// command file (`is_request` of sam_overlay). It acts as the client goes on, and comes to the text that is shown now, with the host's
+    /// changes since. Errors are those of that call, in its order; after each all is as before.
+    pub fn ask(&mut self, event: UserEvent) -> Result<(), AskFault>
         requires { IsTrue (is_request event) }
         ensures { Does self.old (Request event result) self.new }
     {
-        self.overlay.bring_event(event)
+        self.ordered.ask(event)
     }
 
-    /// Takes back the next runes that wait over a file for which its text has no room, as `Overlay::drop_next` does, and returns them and
-    /// where they stood. `None` if there are none, or no edit of the file can act at once. So a program asks where the client is idle and
-    /// edits wait over a free file. The only error is `OutOfMemory`, after which all is as before.
+    /// Takes back the next runes that wait over a file for which its text has no room, as `OrderedOverlay::drop_next` does, and returns them
+    /// and where they stood. `None` if there are none, or no edit of the file can act at once. So a program asks where the client is idle
+    /// and edits wait over a free file. The only error is `OutOfMemory`, after which all is as before.
     pub fn drop_next(&mut self, tag: u16) -> Result<Option<Dropped>, PendingFault>
         ensures { Does self.old (TakeBack tag result) self.new }
     {
-        self.overlay.drop_next(tag)
+        self.ordered.drop_next(tag)
     }
 
     // ---- Readers
 
-    /// Returns whether nothing that the user did is left here: no edit waits, no event is held, no rune that was typed is unsent, and all
-    /// that was composed was taken, also the answers to the host's frames.
+    /// Returns whether nothing that the user did is left here: no request and no edit waits, no event is held, no rune that was typed is
+    /// unsent, and all that was composed was taken, also the answers to the host's frames.
     #[tactic(auto, using(crate::proofs::DeliveryLaws::sent_facts))]
     fn has_sent(&self) -> bool
-        ensures { IsTrue result ↔ HasSent self.now.overlay }
+        ensures { IsTrue result ↔ HasSent self.now.ordered }
     {
-        let end = self.overlay.end();
+        let end = self.overlay().end();
+        if self.requests() != 0 {
+            return false;
+        }
         if end.term().held() != 0 || end.term().has_unsent() || end.pending() != 0 {
             return false;
         }
-        match self.overlay.next_waiting(0) {
+        match self.overlay().next_waiting(0) {
             Some(_) => false,
             None => end.is_idle(),
         }
     }
 
-    /// Returns whether the host's end of the link has all that the user did, and all notes: nothing waits here (no edit, no event that a
-    /// lock holds back, no rune that was typed and not sent, no byte that was composed), and all that was put is acknowledged.
+    /// Returns whether the host's end of the link has all that the user did, and all notes: nothing waits here (no request, no edit, no
+    /// event that a lock holds back, no rune that was typed and not sent, no byte that was composed), and all that was put is acknowledged.
     pub fn has_all(&self) -> bool
         ensures { IsTrue result ↔ HasAll self.now }
     {
@@ -194,21 +198,31 @@ impl Client {
     }
 
     /// Returns whether what is shown of a file may differ from what was written last: an edit waits over it, or `Terminal::is_changed`
-    /// says so. If not, what is shown is its rasp. False of the command file, and of a file that is not known.
+    /// says so. If not, what is shown is its rasp. False of the command file, and of a file that is not known. A write that waits does
+    /// not count.
     #[tactic(auto, using(crate::proofs::DeliveryLaws::shows_rasp))]
     pub fn is_unsaved(&self, tag: u16) -> bool
         ensures value { result ≡ is_unsaved self.now tag }
-        ensures shown { result ≡ false → shown_at self.now.overlay tag ≡ rasp_at self.now.overlay.end.term tag }
+        ensures shown { result ≡ false
+            → shown_at self.now.ordered.overlay tag ≡ rasp_at self.now.ordered.overlay.end.term tag }
     {
-        self.overlay.facts();
-        self.overlay.is_waiting(tag) || self.overlay.end().term().is_changed(tag)
+        let overlay = self.overlay();
+        overlay.facts();
+        overlay.is_waiting(tag) || overlay.end().term().is_changed(tag)
+    }
+
+    /// Returns how many requests wait, those not among them that the terminal's end has.
+    pub fn requests(&self) -> usize
+        ensures { result ≡ length self.now.ordered.queue }
+    {
+        self.ordered.waiting()
     }
 
     /// Lends the terminal's end with the edits that wait, to be read.
     pub fn overlay(&self) -> &Overlay
-        ensures { result.now ≡ self.now.overlay }
+        ensures { result.now ≡ self.now.ordered.overlay }
     {
-        &self.overlay
+        self.ordered.overlay()
     }
 
     /// Lends the line, to be read.

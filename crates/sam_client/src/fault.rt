@@ -1,7 +1,7 @@
 //! Why a client doesn't go on.
 
 ghost use Rattle.std.specs.Prelude.{◌≡◌};
-ghost use Rattle.sam_client.specs.Faults.{bring_fault, put_fault, send_fault, step_fault};
+ghost use Rattle.sam_client.specs.Faults.{act_fault, bring_fault, put_fault, send_fault, step_fault};
 
 use sam_endpoint::{BringFault, EndpointFault, TermStop};
 use sam_link::PutFault as SendFault;
@@ -64,6 +64,17 @@ impl GoOnFault {
             PutFault::TooLong => None,
             PutFault::CountFull => Some(GoOnFault::CountFull),
             PutFault::OutOfMemory => Some(GoOnFault::OutOfMemory),
+        }
+    }
+
+    /// Returns the fault of a request that did not act. That its text would be too long is never why.
+    pub(crate) fn of_act(why: PutFault) -> GoOnFault
+        ensures { result ≡ act_fault why }
+    {
+        match why {
+            PutFault::Stopped(why) => GoOnFault::Stopped(why),
+            PutFault::CountFull => GoOnFault::CountFull,
+            PutFault::TooLong | PutFault::OutOfMemory => GoOnFault::OutOfMemory,
         }
     }
 }

@@ -3,8 +3,8 @@
 ghost use Rattle.std.specs.Prelude.{◌≡◌, ℕ, ◌^◌, ◌<◌, ◌≤◌, []};
 ghost use Rattle.sam_endpoint.specs.TermStepping.{IsReady};
 ghost use Rattle.sam_client.specs.Clients.{Does, HasReceived, fetched};
-ghost use Rattle.sam_client.specs.Clients.Act.{AskHost, Bring, Fetch, FetchNote, PutEdit, Send, SendNote, Step, TellRefusal};
-ghost use Rattle.sam_client.specs.Going.{EditIdle, EditsIdle, EndIdle, GoesOn, IfIdle, InIdle, IsNextTag, IsPut, OutIdle, Rests, most_moves, step_event};
+ghost use Rattle.sam_client.specs.Clients.Act.{ActNext, AskHost, Bring, Fetch, FetchNote, PutEdit, Send, SendNote, Step, TellRefusal};
+ghost use Rattle.sam_client.specs.Going.{EditIdle, EditsIdle, EndIdle, GoesOn, IfIdle, InIdle, IsNextTag, IsPut, OutIdle, RequestsIdle, Rests, most_moves, step_event};
 ghost use Rattle.sam_client.specs.Notes.{PutsNote, SendsAll, note_fault};
 
 use crate::client::Client;
@@ -12,7 +12,7 @@ use crate::event::Event;
 use crate::fault::GoOnFault;
 use sam_endpoint::{BringFault, EndpointFault, TermStep, TermStop};
 use sam_link::{MOST_BODY, NoteFault, PutFault as SendFault};
-use sam_overlay::{OverlayStep, Put, PutFault};
+use sam_overlay::{OverlayStep, Put, PutFault, Turn};
 use sam_runes::ALL_TAGS;
 use sam_term::Refusal;
 
@@ -49,36 +49,44 @@ impl Client {
     fn tell_refusal(&mut self) -> Option<(u64, Refusal)>
         ensures { Does self.old (TellRefusal result) self.new }
     {
-        self.overlay.next_refusal()
+        self.ordered.next_refusal()
     }
 
     /// Has the terminal's end go on by one step.
     fn step(&mut self) -> Result<OverlayStep, EndpointFault<TermStop>>
         ensures { Does self.old (Step result) self.new }
     {
-        self.overlay.step()
+        self.ordered.step()
     }
 
-    /// Puts the next edit that waits over a file as an event.
+    /// Has the oldest request act, if nothing is left before it: the terminal's end holds it then.
+    fn act_next(&mut self) -> Result<Turn, PutFault>
+        ensures { Does self.old (ActNext result) self.new }
+    {
+        self.ordered.act_next()
+    }
+
+    /// Puts the next edit that waits over a file as an event, if no request stands before it.
     fn put_edit(&mut self, tag: u16) -> Result<Put, PutFault>
         ensures { Does self.old (PutEdit tag result) self.new }
     {
-        self.overlay.put_next(tag)
+        self.ordered.put_next(tag)
     }
 
     /// Puts all that the end composed into the line.
     fn send(&mut self, now: u64) -> Result<(), SendFault>
-        ensures { Does self.old (Send self.old.overlay.end.pending_bytes now result) self.new }
+        ensures { Does self.old (Send self.old.ordered.overlay.end.pending_bytes now result) self.new }
     {
-        self.line.put(self.overlay.end().pending_bytes(), now)?;
-        let count = self.overlay.end().pending();
-        self.overlay.consume(count);
+        self.line
+            .put(self.ordered.overlay().end().pending_bytes(), now)?;
+        let count = self.overlay().end().pending();
+        self.ordered.consume(count);
         Ok(())
     }
 
     /// Puts a note into the line, where nothing is left of what the end composed.
     fn send_note(&mut self, bytes: &[u8], now: u64) -> Result<(), NoteFault>
-        requires { self.old.overlay.end.pending_bytes ≡ [] }
+        requires { self.old.ordered.overlay.end.pending_bytes ≡ [] }
         ensures { Does self.old (SendNote bytes.now now result) self.new }
     {
         self.line.put_note(bytes, now)
@@ -96,7 +104,7 @@ impl Client {
     fn bring(&mut self) -> Result<(), BringFault<TermStop>>
         ensures { Does self.old (Bring self.old.held result) self.new }
     {
-        self.overlay.bring(self.held.bytes())?;
+        self.ordered.bring(self.held.bytes())?;
         self.held.clear();
         Ok(())
     }
@@ -132,6 +140,19 @@ impl Client {
         }
     }
 
+    /// Has the oldest request act.
+    fn go_on_requests(&mut self) -> Result<Event, GoOnFault>
+        ensures goes { (now : ℕ) → GoesOn now 1 self.old result self.new }
+        ensures idle { IfIdle result (RequestsIdle self.old self.new) }
+    {
+        match self.act_next() {
+            Ok(Turn::Request) => Ok(Event::Busy),
+            Ok(Turn::Nothing) => Ok(Event::Idle),
+            Ok(Turn::NotYet) => Ok(Event::Idle),
+            Err(why) => Err(GoOnFault::of_act(why)),
+        }
+    }
+
     /// Puts the next edit of a file.
     fn go_on_edit(&mut self, tag: u16) -> Result<Event, GoOnFault>
         ensures goes { (now : ℕ) → GoesOn now 1 self.old result self.new }
@@ -152,13 +173,13 @@ impl Client {
     #[tactic(auto, using(crate::proofs::GoingLaws::all_show))]
     fn next_kept(&self, from: usize) -> usize
         requires { from ≤ 2 ^ 16 }
-        ensures next { IsNextTag self.now.overlay from result }
-        ensures put { (f : ℕ) → from ≤ f → f < result → IsPut self.now.overlay f }
+        ensures next { IsNextTag self.now.ordered.overlay from result }
+        ensures put { (f : ℕ) → from ≤ f → f < result → IsPut self.now.ordered f }
     {
         if from >= ALL_TAGS {
             return ALL_TAGS;
         }
-        match self.overlay.next_kept(from as u16) {
+        match self.overlay().next_kept(from as u16) {
             Some(tag) => tag as usize,
             None => ALL_TAGS,
         }
@@ -178,6 +199,7 @@ impl Client {
             }
             tag = self.next_kept(tag + 1);
         }
+        self.overlay().facts();
         Ok(Event::Idle)
     }
 
@@ -186,7 +208,7 @@ impl Client {
         ensures goes { GoesOn now 1 self.old result self.new }
         ensures idle { IfIdle result (OutIdle self.old self.new) }
     {
-        if self.overlay.end().pending() == 0 {
+        if self.overlay().end().pending() == 0 {
             return Ok(Event::Idle);
         }
         match self.send(now) {
@@ -197,7 +219,7 @@ impl Client {
 
     /// Brings the terminal's end what comes from the line, or takes a note; asks the host where there is nothing.
     fn go_on_in(&mut self, now: u64) -> Result<Event, GoOnFault>
-        requires { IsReady self.old.overlay.end }
+        requires { IsReady self.old.ordered.overlay.end }
         ensures goes { GoesOn now 1 self.old result self.new }
         ensures idle { IfIdle result (InIdle self.old self.new) }
     {
@@ -223,12 +245,15 @@ impl Client {
     // ---- All
 
     /// Goes on by what can move first.
-    #[tactic(auto, using(crate::proofs::GoingLaws::all_rest))]
     fn advance(&mut self, now: u64) -> Result<Event, GoOnFault>
         ensures goes { GoesOn now 1 self.old result self.new }
         ensures idle { IfIdle result (Rests self.new) }
     {
         match self.go_on_end()? {
+            Event::Idle => {}
+            event => return Ok(event),
+        }
+        match self.go_on_requests()? {
             Event::Idle => {}
             event => return Ok(event),
         }
@@ -243,8 +268,8 @@ impl Client {
         self.go_on_in(now)
     }
 
-    /// Goes on until there is something to tell: bytes of the host go from the line to the terminal's end, its steps are made, edits of
-    /// free files are put, and what it composed goes into the line. Call it after each call that brought something, until it answers
+    /// Goes on until there is something to tell: bytes of the host go from the line to the terminal's end, its steps are made, requests act
+    /// and edits of free files are put in their one order, and what the end composed goes into the line. Call it after each call that brought something, until it answers
     /// `Idle`. It makes `MOST_MOVES` moves at most that do something, and answers `Busy` just if it made so many and nothing is to be told.
     ///
     /// Errors: `Stopped` if the terminal's end has stopped; `CountFull` if a count of bytes or events would pass 2^64-1; `OutOfMemory`.
@@ -268,7 +293,7 @@ impl Client {
     fn send_all(&mut self, now: u64) -> Result<(), SendFault>
         ensures { SendsAll self.old now result self.new }
     {
-        if self.overlay.end().pending() == 0 {
+        if self.overlay().end().pending() == 0 {
             return Ok(());
         }
         self.send(now)

@@ -1,5 +1,5 @@
-//! The terminal's side of a session, without input, output or clock: a terminal's end with edits that wait, and its line to the host. Begin
-//! with `Client`.
+//! The terminal's side of a session, without input, output or clock: a terminal's end with edits and requests that wait, and its line to
+//! the host. Begin with `Client`.
 #![tactic(auto)]
 
 mod client;

@@ -1,5 +1,6 @@
 use Rattle.std.proofs.Common.{◌≡◌, ◌+◌, rules, Ok, Err, Result, sym, subst}
-use Rattle.sam_client.specs.Going.{EditIdle, EditsIdle, GoesOn}
+use Rattle.sam_overlay.specs.Calls.{PlainOverlay}
+use Rattle.sam_client.specs.Going.{EditIdle, EditsIdle, GoesOn, IsAllPut}
 use Rattle.sam_client.specs.declared.event.Event.{Event}
 use Rattle.sam_client.specs.declared.event.Event.TheVariants as tell
 use Rattle.sam_client.specs.declared.fault.GoOnFault.{GoOnFault}
@@ -33,4 +34,6 @@ tags-preserved c =
     c.next_kept-tag-in-tags.ensures.put
 
 pub returns-clause-idle : goal.returns-clause-idle
-returns-clause-idle c = all_so_far c.args.self.now c.tags.self c.tags.tag c.tags-test.false c.tags.invariant
+returns-clause-idle c =
+    all_so_far c.args.self.now c.tags.self c.tags.tag c.tags-test.false c.tags.invariant
+    (subst (λ (o : PlainOverlay). IsAllPut o 0) c.overlay.ensures c.facts.ensures.command)
