@@ -21,13 +21,13 @@ nothing_left out pending whole unwritten none written is =
 pub has_all_is_true : HasAllIsTrue
 has_all_is_true id take_over now acts n s fine session same all =
     let calls = clients_are_calls (new_client id take_over now) n acts session.does session.going in
-    let lead = runs_lead calls.end_calls n.overlay.end calls.runs in
+    let lead = runs_lead calls.end_calls n.ordered.overlay.end calls.runs in
     let host = line_has_all id take_over now session.steps s fine session.leads (ap lines.has_all same ∙ all.acknowledged) in
     record {
       end_calls = calls.end_calls;
       done = lead;
       composed = sym calls.sent
-          ∙ nothing_left (flat_map went_out calls.end_calls) n.overlay.end.pending_bytes (stream_of terminal lead.composed) n.overlay.end.unwritten
+          ∙ nothing_left (flat_map went_out calls.end_calls) n.ordered.overlay.end.pending_bytes (stream_of terminal lead.composed) n.ordered.overlay.end.unwritten
           all.sent.sent all.sent.idle.unwritten lead.bytes;
       there = sym calls.puts ∙ ap (flat_map line_put_by) (sym session.calls) ∙ host.there;
     }

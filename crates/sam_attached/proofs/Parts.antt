@@ -20,14 +20,20 @@ use Rattle.sam_endpoint.specs.declared.fault.EndpointFault.TheVariants as ends
 use Rattle.sam_endpoint.specs.declared.fault.TermStop.{TermStop}
 use Rattle.sam_endpoint.specs.declared.step.BringFault.{BringFault}
 use Rattle.sam_term.specs.declared.event.UserEvent.{UserEvent}
-use Rattle.sam_overlay.specs.Calls.{Asks, Brings, Drops, PlainOverlay, Puts}
+use Rattle.sam_overlay.specs.Calls.{Brings, DropsUpTo, PlainOverlay, PutsUpTo}
+use Rattle.sam_overlay.specs.Ordered.{ActsNext}
 use Rattle.sam_overlay.specs.Overlays.{edit_event}
+use Rattle.sam_overlay.specs.Requests.{put_limit}
+use Rattle.sam_overlay.specs.declared.fault.AskFault.{AskFault}
 use Rattle.sam_overlay.specs.declared.fault.PutFault.{PutFault}
 use Rattle.sam_overlay.specs.declared.fault.PutFault.TheVariants as unput
 use Rattle.sam_overlay.specs.declared.fault.ReplaceFault.{ReplaceFault}
+use Rattle.sam_overlay.specs.declared.ordered.OrderedOverlay.{OrderedOverlay}
 use Rattle.sam_overlay.specs.declared.shown_change.Put.{Put as Became}
 use Rattle.sam_overlay.specs.declared.shown_change.Put.TheVariants as became
-use Rattle.sam_client.specs.Clients.{Act, Does, Edits, IsAlone}
+use Rattle.sam_overlay.specs.declared.shown_change.Turn.{Turn}
+use Rattle.sam_overlay.specs.declared.shown_change.Turn.TheVariants as turn
+use Rattle.sam_client.specs.Clients.{Act, Asks, Does, Edits, IsAlone}
 use Rattle.sam_client.specs.Clients as act
 use Rattle.sam_client.specs.Packets.{GivesNote, next_bytes, without_bytes}
 use Rattle.sam_client.specs.declared.client.Client.{Client}
@@ -36,7 +42,7 @@ use Rattle.sam_attached.specs.Runs.{IsGoing, blank, left_by, line_calls, put_by,
 -- as AreCalls, of one act
 pub record OneCall (c : Client) (a : Act) (n : Client) : Type 0 where
   pub end_calls : List EndCall
-  pub runs : EndRuns c.overlay.end end_calls n.overlay.end
+  pub runs : EndRuns c.ordered.overlay.end end_calls n.ordered.overlay.end
   pub does : LineDoesAll c.line (line_calls a) n.line
   pub puts : flat_map line_put_by (line_calls a) ≡ put_by a
   pub leaves : flat_map line_handed_by (line_calls a) ≡ left_by a
@@ -56,7 +62,7 @@ still : (e g : PlainTermEndpoint) → g ≡ e → Quiet e g
 still e g same = record { calls = []; runs = same; out = refl; came = refl }
 
 -- an act that the line doesn't see
-unseen : (c n : Client) (a : Act) → line_calls a ≡ [] → put_by a ≡ [] → left_by a ≡ [] → Quiet c.overlay.end n.overlay.end → n.line ≡ c.line
+unseen : (c n : Client) (a : Act) → line_calls a ≡ [] → put_by a ≡ [] → left_by a ≡ [] → Quiet c.ordered.overlay.end n.ordered.overlay.end → n.line ≡ c.line
     → n.held ≡ c.held → OneCall c a n
 unseen c n a none no_put no_left quiet line held = record {
   end_calls = quiet.calls;
@@ -69,31 +75,39 @@ unseen c n a none no_put no_left quiet line held = record {
       ∙ ap (λ (came : List ℕ). came ++ n.held) (sym quiet.came);
 }
 
-edits_end : (o n : PlainOverlay) (f p q : ℕ) (s : List ℕ) (answer : Result (Unit {0}) ReplaceFault) → Edits o f p q s answer n → n.end ≡ o.end
-edits_end o n f p q s (Ok done) (tests, replaced, others, end, putting) = end
-edits_end o n f p q s (Err why) (tests, same) = ap (λ (x : PlainOverlay). x.end) same
+edits_end : (o n : OrderedOverlay) (f p q : ℕ) (s : List ℕ) (answer : Result (Unit {0}) ReplaceFault) → Edits o f p q s answer n
+    → n.overlay.end ≡ o.overlay.end
+edits_end o n f p q s (Ok done) (tests, replaced, finds, others, end, putting, queue) = end
+edits_end o n f p q s (Err why) (tests, same) = ap (λ (x : OrderedOverlay). x.overlay.end) same
 
-asks_end : (e : PlainTermEndpoint) (ls : Slots Layer) (putting limit : Option ℕ) (n : PlainOverlay) (event : UserEvent)
-    (answer : Result (Unit {0}) (BringFault TermStop)) → Asks (record { end = e; layers = ls; putting = putting; limit = limit }) event answer n → Quiet e n.end
-asks_end e ls None limit n event answer (brings, keeps) =
-    record { calls = run.BringEvent event answer ∷ []; runs = (n.end, brings, refl); out = refl; came = refl }
-asks_end e ls (Some f) limit n event (Ok done) asks = absurd asks
-asks_end e ls (Some f) limit n event (Err why) (not, same) = still e n.end (ap (λ (x : PlainOverlay). x.end) same)
+asks_end : (o n : OrderedOverlay) (event : UserEvent) (answer : Result (Unit {0}) AskFault) → Asks o event answer n → n.overlay.end ≡ o.overlay.end
+asks_end o n event (Ok done) asks = ap (λ (x : OrderedOverlay). x.overlay.end) asks.asked.taken
+asks_end o n event (Err why) asks = ap (λ (x : OrderedOverlay). x.overlay.end) asks.err
 
-puts_end : (o n : PlainOverlay) (f : ℕ) (answer : Result Became PutFault) → Puts o f answer n → Quiet o.end n.end
-puts_end o n f (Ok became.Nothing) (rests, end, putting, none, cells) = still o.end n.end end
-puts_end o n f (Ok became.NotFree) (same, not) = still o.end n.end (ap (λ (x : PlainOverlay). x.end) same)
-puts_end o n f (Ok became.Edit) (l, e, waits, next, brings, layers, putting) =
+acts_end : (o n : OrderedOverlay) (answer : Result Turn PutFault) → ActsNext o answer n → Quiet o.overlay.end n.overlay.end
+acts_end o n (Ok turn.Nothing) (none, same) = still o.overlay.end n.overlay.end (ap (λ (x : OrderedOverlay). x.overlay.end) same)
+acts_end o n (Ok turn.NotYet) (yet, same) = still o.overlay.end n.overlay.end (ap (λ (x : OrderedOverlay). x.overlay.end) same)
+acts_end o n (Ok turn.Request) acts =
+    record { calls = run.BringEvent acts.request.event (Ok tt) ∷ []; runs = (n.overlay.end, acts.brings, refl); out = refl; came = refl }
+acts_end o n (Err (unput.Stopped why)) (stops, same) = still o.overlay.end n.overlay.end (ap (λ (x : OrderedOverlay). x.overlay.end) same)
+acts_end o n (Err unput.TooLong) acts = absurd acts
+acts_end o n (Err unput.CountFull) (full, same) = still o.overlay.end n.overlay.end (ap (λ (x : OrderedOverlay). x.overlay.end) same)
+acts_end o n (Err unput.OutOfMemory) same = still o.overlay.end n.overlay.end (ap (λ (x : OrderedOverlay). x.overlay.end) same)
+
+puts_end : (m : Option ℕ) (o n : PlainOverlay) (f : ℕ) (answer : Result Became PutFault) → PutsUpTo m o f answer n → Quiet o.end n.end
+puts_end m o n f (Ok became.Nothing) (rests, end, putting, none, cells) = still o.end n.end end
+puts_end m o n f (Ok became.NotFree) (same, not) = still o.end n.end (ap (λ (x : PlainOverlay). x.end) same)
+puts_end m o n f (Ok became.Edit) (free, l, e, waits, next, brings, layers, putting) =
     record { calls = run.BringEvent (edit_event f e) (Ok tt) ∷ []; runs = (n.end, brings, refl); out = refl; came = refl }
-puts_end o n f (Err (unput.Stopped why)) (stops, same) = still o.end n.end (ap (λ (x : PlainOverlay). x.end) same)
-puts_end o n f (Err unput.TooLong) (l, waits, full, same) = still o.end n.end (ap (λ (x : PlainOverlay). x.end) same)
-puts_end o n f (Err unput.CountFull) (full, same) = still o.end n.end (ap (λ (x : PlainOverlay). x.end) same)
-puts_end o n f (Err unput.OutOfMemory) same = still o.end n.end (ap (λ (x : PlainOverlay). x.end) same)
+puts_end m o n f (Err (unput.Stopped why)) (stops, same) = still o.end n.end (ap (λ (x : PlainOverlay). x.end) same)
+puts_end m o n f (Err unput.TooLong) (l, waits, full, same) = still o.end n.end (ap (λ (x : PlainOverlay). x.end) same)
+puts_end m o n f (Err unput.CountFull) (full, same) = still o.end n.end (ap (λ (x : PlainOverlay). x.end) same)
+puts_end m o n f (Err unput.OutOfMemory) same = still o.end n.end (ap (λ (x : PlainOverlay). x.end) same)
 
-drops_end : (o n : PlainOverlay) (f : ℕ) (answer : Result (Option Dropped) PendingFault) → Drops o f answer n → Quiet o.end n.end
-drops_end o n f (Ok None) (same, not) = still o.end n.end (ap (λ (x : PlainOverlay). x.end) same)
-drops_end o n f (Ok (Some d)) (putting, free, drops, others, end, puts) = still o.end n.end end
-drops_end o n f (Err why) (memory, same) = still o.end n.end (ap (λ (x : PlainOverlay). x.end) same)
+drops_end : (m : Option ℕ) (o n : PlainOverlay) (f : ℕ) (answer : Result (Option Dropped) PendingFault) → DropsUpTo m o f answer n → Quiet o.end n.end
+drops_end m o n f (Ok None) (same, not) = still o.end n.end (ap (λ (x : PlainOverlay). x.end) same)
+drops_end m o n f (Ok (Some d)) (putting, free, drops, others, end, puts) = still o.end n.end end
+drops_end m o n f (Err why) (memory, same) = still o.end n.end (ap (λ (x : PlainOverlay). x.end) same)
 
 -- ## Calls of the line alone
 
@@ -117,7 +131,7 @@ alone_hands _ alone = refl
 
 -- a call that the terminal's end doesn't see, and that moves no byte
 beside : (c n : Client) (a : Act) (call : LineCall) → line_calls a ≡ call ∷ [] → LineDoes c.line call n.line → line_put_by call ≡ put_by a
-    → line_handed_by call ≡ left_by a → bytes_of (put_by a) ≡ [] → bytes_of (left_by a) ≡ [] → n.overlay.end ≡ c.overlay.end → n.held ≡ c.held
+    → line_handed_by call ≡ left_by a → bytes_of (put_by a) ≡ [] → bytes_of (left_by a) ≡ [] → n.ordered.overlay.end ≡ c.ordered.overlay.end → n.held ≡ c.held
     → OneCall c a n
 beside c n a call is does puts hands no_put no_left end held = record {
   end_calls = [];
@@ -177,7 +191,7 @@ brought_end e ls (Some f) limit n bytes brings = absurd brings
 -- ## All acts
 
 abbrev end_in : Client → PlainTermEndpoint
-end_in c = c.overlay.end
+end_in c = c.ordered.overlay.end
 
 pub one_call : (c n : Client) (a : Act) → IsGoing a → Does c a n → OneCall c a n
 one_call c n (act.OfLine call) going (alone, does, same) =
@@ -185,32 +199,35 @@ one_call c n (act.OfLine call) going (alone, does, same) =
     (ap (λ (x : Client). x.held) same)
 one_call c n (act.Replace f p q s answer) going (edits, same) =
     unseen c n (act.Replace f p q s answer) refl refl refl
-    (still c.overlay.end n.overlay.end (edits_end c.overlay n.overlay f p q s answer edits))
+    (still c.ordered.overlay.end n.ordered.overlay.end (edits_end c.ordered n.ordered f p q s answer edits))
     (ap (λ (x : Client). x.line) same) (ap (λ (x : Client). x.held) same)
 one_call c n (act.Request event answer) going (asks, same) =
     unseen c n (act.Request event answer) refl refl refl
-    (asks_end c.overlay.end c.overlay.layers c.overlay.putting c.overlay.limit n.overlay event answer asks)
+    (still c.ordered.overlay.end n.ordered.overlay.end (asks_end c.ordered n.ordered event answer asks))
     (ap (λ (x : Client). x.line) same) (ap (λ (x : Client). x.held) same)
 one_call c n (act.TakeBack f answer) going ((drops, cells), same) =
-    unseen c n (act.TakeBack f answer) refl refl refl (drops_end c.overlay n.overlay f answer drops)
+    unseen c n (act.TakeBack f answer) refl refl refl (drops_end (put_limit c.ordered.queue f) c.ordered.overlay n.ordered.overlay f answer drops)
     (ap (λ (x : Client). x.line) same) (ap (λ (x : Client). x.held) same)
 one_call c n (act.TellRefusal oldest) going (is, same) =
     unseen c n (act.TellRefusal oldest) refl refl refl
     (record { calls = run.NextRefusal oldest ∷ []; runs = (is, ap end_in same); out = refl; came = refl })
     (ap (λ (x : Client). x.line) same) (ap (λ (x : Client). x.held) same)
-one_call c n (act.Step (Ok x)) going ((steps, cells, putting, leads), same) =
+one_call c n (act.Step (Ok x)) going ((steps, cells, putting, leads, texts), same) =
     unseen c n (act.Step (Ok x)) refl refl refl
-    (record { calls = run.MakeStep (Ok x.step) ∷ []; runs = (n.overlay.end, steps, tt, refl); out = refl; came = refl })
+    (record { calls = run.MakeStep (Ok x.step) ∷ []; runs = (n.ordered.overlay.end, steps, tt, refl); out = refl; came = refl })
     (ap (λ (x : Client). x.line) same) (ap (λ (x : Client). x.held) same)
 one_call c n (act.Step (Err (ends.Stopped why))) going does = absurd going
 one_call c n (act.Step (Err ends.Unfinished)) going ((steps, keeps, stops), same) =
     unseen c n (act.Step (Err ends.Unfinished)) refl refl refl
-    (record { calls = run.MakeStep (Err ends.Unfinished) ∷ []; runs = (n.overlay.end, steps, tt, refl); out = refl; came = refl })
+    (record { calls = run.MakeStep (Err ends.Unfinished) ∷ []; runs = (n.ordered.overlay.end, steps, tt, refl); out = refl; came = refl })
     (ap (λ (x : Client). x.line) same) (ap (λ (x : Client). x.held) same)
 one_call c n (act.Step (Err ends.OutOfMemory)) going ((steps, keeps, stops), same) = absurd steps
 one_call c n (act.Step (Err ends.CountFull)) going ((steps, keeps, stops), same) = absurd steps
+one_call c n (act.ActNext answer) going (acts, same) =
+    unseen c n (act.ActNext answer) refl refl refl (acts_end c.ordered n.ordered answer acts)
+    (ap (λ (x : Client). x.line) same) (ap (λ (x : Client). x.held) same)
 one_call c n (act.PutEdit f answer) going (puts, same) =
-    unseen c n (act.PutEdit f answer) refl refl refl (puts_end c.overlay n.overlay f answer puts)
+    unseen c n (act.PutEdit f answer) refl refl refl (puts_end (put_limit c.ordered.queue f) c.ordered.overlay n.ordered.overlay f answer puts)
     (ap (λ (x : Client). x.line) same) (ap (λ (x : Client). x.held) same)
 one_call c n (act.Send bytes now (Ok done)) going (is, does, same) = record {
   end_calls = run.TakeOut bytes ∷ [];
@@ -241,7 +258,7 @@ one_call c n (act.Fetch bytes) going ((none, ready), is, same) = record {
 }
 one_call c n (act.Bring bytes (Ok done)) going (is, brings, same) = record {
   end_calls = run.Bring bytes (Ok tt) ∷ [];
-  runs = brought_end c.overlay.end c.overlay.layers c.overlay.putting c.overlay.limit n.overlay bytes brings;
+  runs = brought_end c.ordered.overlay.end c.ordered.overlay.layers c.ordered.overlay.putting c.ordered.overlay.limit n.ordered.overlay bytes brings;
   does = ap (λ (x : Client). x.line) same;
   puts = refl;
   leaves = refl;
@@ -251,10 +268,10 @@ one_call c n (act.Bring bytes (Ok done)) going (is, brings, same) = record {
 }
 one_call c n (act.Bring bytes (Err why)) going (is, brings, same) =
     unseen c n (act.Bring bytes (Err why)) refl refl refl
-    (brings_end c.overlay.end c.overlay.layers c.overlay.putting c.overlay.limit n.overlay bytes why brings)
+    (brings_end c.ordered.overlay.end c.ordered.overlay.layers c.ordered.overlay.putting c.ordered.overlay.limit n.ordered.overlay bytes why brings)
     (ap (λ (x : Client). x.line) same) (ap (λ (x : Client). x.held) same)
 one_call c n (act.FetchNote None) going (got, none, same) =
-    unseen c n (act.FetchNote None) refl refl refl (still c.overlay.end n.overlay.end (ap end_in same))
+    unseen c n (act.FetchNote None) refl refl refl (still c.ordered.overlay.end n.ordered.overlay.end (ap end_in same))
     (ap (λ (x : Client). x.line) same) (ap (λ (x : Client). x.held) same)
 one_call c n (act.FetchNote (Some note)) going (got, given, same) =
     beside c n (act.FetchNote (Some note)) (of_line.NextNote blank (Some (length note)) (with_bytes note)) refl

@@ -41,7 +41,7 @@ join h a b x m y n first second =
 calls_then : (c m n : Client) (act : Act) (acts : List Act) → OneCall c act m → AreCalls m acts n → AreCalls c (act ∷ acts) n
 calls_then c m n act acts one rest = record {
   end_calls = one.end_calls ++ rest.end_calls;
-  runs = runs_then c.overlay.end m.overlay.end n.overlay.end one.end_calls rest.end_calls one.runs rest.runs;
+  runs = runs_then c.ordered.overlay.end m.ordered.overlay.end n.ordered.overlay.end one.end_calls rest.end_calls one.runs rest.runs;
   does = line_then c.line m.line n.line (line_calls act) (flat_map line_calls acts) one.does rest.does;
   puts = both line_put_by (line_calls act) (flat_map line_calls acts) (put_by act) (flat_map put_by acts) one.puts rest.puts;
   leaves = both line_handed_by (line_calls act) (flat_map line_calls acts) (left_by act) (flat_map left_by acts) one.leaves rest.leaves;
@@ -56,7 +56,7 @@ calls_then c m n act acts one rest = record {
 pub clients_are_calls : ClientsAreCalls
 clients_are_calls c n [] same going = record {
   end_calls = [];
-  runs = ap (λ (x : Client). x.overlay.end) same;
+  runs = ap (λ (x : Client). x.ordered.overlay.end) same;
   does = ap (λ (x : Client). x.line) same;
   puts = refl;
   leaves = refl;

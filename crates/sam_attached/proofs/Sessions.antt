@@ -26,14 +26,14 @@ clients_are_linked id take_over now acts n s session =
       session = sh.t;
       leads = sh.leads;
       host_calls = sh.host_calls_are;
-      puts = record { rest = n.overlay.end.pending_bytes; is = ap (λ (l : List ℕ). l ++ n.overlay.end.pending_bytes) (sym went) };
+      puts = record { rest = n.ordered.overlay.end.pending_bytes; is = ap (λ (l : List ℕ). l ++ n.ordered.overlay.end.pending_bytes) (sym went) };
       takes = record { rest = n.held; is = came };
     }
 
 pub clients_are_one_run : ClientsAreOneRun
 clients_are_one_run given id take_over now acts n s host_calls e fine session fit host_runs takes puts =
     let l = clients_are_linked id take_over now acts n s session in
-    let all = linked_are_one_run given id l.steps l.session host_calls l.end_calls e n.overlay.end fit host_runs l.runs fine l.leads (record {
+    let all = linked_are_one_run given id l.steps l.session host_calls l.end_calls e n.ordered.overlay.end fit host_runs l.runs fine l.leads (record {
       term_puts = l.puts;
       host_takes = subst (λ (calls : List Call). StartsWith (bytes_of (handed calls)) (flat_map came_up host_calls)) (sym l.host_calls) takes;
       host_puts = subst (λ (calls : List Call). StartsWith (flat_map went_down host_calls ++ e.pending_bytes) (bytes_of (put calls))) (sym l.host_calls) puts;

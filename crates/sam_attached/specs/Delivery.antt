@@ -18,7 +18,7 @@ use Rattle.sam_attached.specs.Sessions.{IsSession}
 pub record IsDelivered (acts : List Act) (n : Client) (s : LineSession) : Type 0 where
   pub end_calls : List EndCall
   pub done : HasDone (flat_map came_in end_calls) (flat_map put_in end_calls) (flat_map went_out end_calls) (flat_map handed_out end_calls)
-      n.overlay.end
+      n.ordered.overlay.end
   pub composed : bytes_of (flat_map put_by acts) ≡ stream_of terminal done.composed
   pub there : flat_map put_by acts ≡ handed s.host_calls ++ waits s.host.waiting
 

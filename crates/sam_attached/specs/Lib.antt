@@ -2,3 +2,4 @@ pub mod Runs
 pub mod Sessions
 pub mod Times
 pub mod Delivery
+pub mod Resting

@@ -7,7 +7,7 @@ use Rattle.sam_line.specs.Calls.LineCall.{Ask, NextNote, Put, PutNote, TakeIn}
 use Rattle.sam_endpoint.specs.Streams.{GoesOnAfter}
 use Rattle.sam_endpoint.specs.TermRuns.{Call as EndCall, Runs as EndRuns, came_in, went_out}
 use Rattle.sam_client.specs.Clients.{Act, Does, DoesAll}
-use Rattle.sam_client.specs.Clients.Act.{AskHost, Bring, Fetch, FetchNote, OfLine, PutEdit, Replace, Request, Send, SendNote, Step, TakeBack, TellRefusal}
+use Rattle.sam_client.specs.Clients.Act.{ActNext, AskHost, Bring, Fetch, FetchNote, OfLine, PutEdit, Replace, Request, Send, SendNote, Step, TakeBack, TellRefusal}
 use Rattle.sam_client.specs.declared.client.Client.{Client}
 
 -- ## What crosses
@@ -20,6 +20,7 @@ put_by (Request event answer) = []
 put_by (TakeBack f answer) = []
 put_by (TellRefusal oldest) = []
 put_by (Step answer) = []
+put_by (ActNext answer) = []
 put_by (PutEdit f answer) = []
 put_by (Send bytes now (Ok done)) = map Byte bytes
 put_by (Send bytes now (Err why)) = []
@@ -38,6 +39,7 @@ left_by (Request event answer) = []
 left_by (TakeBack f answer) = []
 left_by (TellRefusal oldest) = []
 left_by (Step answer) = []
+left_by (ActNext answer) = []
 left_by (PutEdit f answer) = []
 left_by (Send bytes now answer) = []
 left_by (SendNote bytes now answer) = []
@@ -62,6 +64,7 @@ line_calls (Request event answer) = []
 line_calls (TakeBack f answer) = []
 line_calls (TellRefusal oldest) = []
 line_calls (Step answer) = []
+line_calls (ActNext answer) = []
 line_calls (PutEdit f answer) = []
 line_calls (Send bytes now answer) = Put bytes now answer ∷ []
 line_calls (SendNote bytes now answer) = PutNote bytes now answer ∷ []
@@ -81,6 +84,7 @@ IsGoing (Request event answer) = Unit {0}
 IsGoing (TakeBack f answer) = Unit {0}
 IsGoing (TellRefusal oldest) = Unit {0}
 IsGoing (Step answer) = GoesOnAfter answer
+IsGoing (ActNext answer) = Unit {0}
 IsGoing (PutEdit f answer) = Unit {0}
 IsGoing (Send bytes now answer) = Unit {0}
 IsGoing (SendNote bytes now answer) = Unit {0}
@@ -97,7 +101,7 @@ AreGoing (act ∷ acts) = IsGoing act × AreGoing acts
 -- went into the line, and took in just those that left it, but for what is held
 pub record AreCalls (c : Client) (acts : List Act) (n : Client) : Type 0 where
   pub end_calls : List EndCall
-  pub runs : EndRuns c.overlay.end end_calls n.overlay.end
+  pub runs : EndRuns c.ordered.overlay.end end_calls n.ordered.overlay.end
   pub does : LineDoesAll c.line (flat_map line_calls acts) n.line
   pub puts : flat_map line_put_by (flat_map line_calls acts) ≡ flat_map put_by acts
   pub leaves : flat_map line_handed_by (flat_map line_calls acts) ≡ flat_map left_by acts

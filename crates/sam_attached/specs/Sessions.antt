@@ -27,12 +27,12 @@ pub record IsSession (id : Id) (take_over : Bool) (now : ℕ) (acts : List Act) 
 -- What the client's end composed and what it took in, beside a session of two links
 pub record IsLinked (id : Id) (n : Client) (s : LineSession) : Type 0 where
   pub end_calls : List EndCall
-  pub runs : EndRuns new_term_endpoint end_calls n.overlay.end
+  pub runs : EndRuns new_term_endpoint end_calls n.ordered.overlay.end
   pub steps : List Step
   pub session : Session
   pub leads : Leads (new_session id) steps session
   pub host_calls : session.host_calls ≡ s.host_calls
-  pub puts : StartsWith (flat_map went_out end_calls ++ n.overlay.end.pending_bytes) (bytes_of (put session.terminal_calls))
+  pub puts : StartsWith (flat_map went_out end_calls ++ n.ordered.overlay.end.pending_bytes) (bytes_of (put session.terminal_calls))
   pub takes : StartsWith (bytes_of (handed session.terminal_calls)) (flat_map came_in end_calls)
 
 -- the terminal's half of what links suppose of programs
@@ -51,6 +51,6 @@ ClientsAreOneRun =
     → StartsWith (bytes_of (handed s.host_calls)) (flat_map came_up host_calls)
     → StartsWith (flat_map went_down host_calls ++ e.pending_bytes) (bytes_of (put s.host_calls))
     → (end_calls : List EndCall) × (up : List ℕ) × (down : List ℕ)
-    × AreCarried given (flat_map asides_by host_calls) (flat_map put_in end_calls) up down e n.overlay.end
-    × (run : AreOneRun given (flat_map asides_by host_calls) (flat_map put_in end_calls) up down e n.overlay.end) × GoOn e n.overlay.end
+    × AreCarried given (flat_map asides_by host_calls) (flat_map put_in end_calls) up down e n.ordered.overlay.end
+    × (run : AreOneRun given (flat_map asides_by host_calls) (flat_map put_in end_calls) up down e n.ordered.overlay.end) × GoOn e n.ordered.overlay.end
     × AreAsIfLocal run

@@ -2,6 +2,7 @@
 ghost use Rattle.sam_attached.specs.Delivery.{HasAllIsTrue};
 ghost use Rattle.sam_attached.specs.Runs.{ClientsAreCalls, NotesComeBehind};
 ghost use Rattle.sam_attached.specs.Sessions.{ClientsAreLinked, ClientsAreOneRun};
+ghost use Rattle.sam_attached.specs.Resting.{RestingClientsAreDone};
 ghost use Rattle.sam_attached.specs.Times.{ClientsAreNeverStuck, ClientsAreTimely};
 
 /// States that what a client does is calls of its terminal's end and of its line, between which each byte goes once and in order, with each
@@ -33,7 +34,10 @@ pub fn clients_are_timely()
     ensures { ClientsAreTimely }
 {}
 
-/// States that no client is stuck: where an answer is due, three ticks that are 30 seconds apart say "drop" and "connect".
+/// States that no client is stuck: where an answer is due, three ticks that are 30 seconds apart say "drop" and "connect". And where nothing
+/// moves any more at a client (`Client::go_on` answers `Idle`) and nothing is under way, no lock is held, and neither a request nor an edit
+/// waits, unless the session is over, a count is full, or a text has no room for what waits over it.
 pub fn clients_are_never_stuck()
-    ensures { ClientsAreNeverStuck }
+    ensures lines { ClientsAreNeverStuck }
+    ensures requests { RestingClientsAreDone }
 {}
