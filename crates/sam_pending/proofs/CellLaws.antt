@@ -63,7 +63,7 @@ pub members-parted : (is other : Cell → Bool) (p q : ℕ) (cs : List Cell)
 members-parted is other p q cs =
     ap (members other) (sym (parted is p q cs)) ∙ members-three other (take_by is p cs) (part_by is p q cs) (drop_by is (q - p) (drop_by is p cs))
 
-take-front : {X : Type 0} (a b : List X) → take (length a) (a ++ b) ≡ a
+pub take-front : {X : Type 0} (a b : List X) → take (length a) (a ++ b) ≡ a
 take-front [] b = refl
 take-front (x ∷ a) b = ap (λ z. x ∷ z) (take-front a b)
 

@@ -11,4 +11,5 @@ pub mod DueLaws
 pub mod DropLaws
 pub mod UpToLaws
 pub mod PutUpToLaws
+pub mod PlaceLaws
 pub mod LayerLaws

@@ -1,7 +1,7 @@
 -- Edits of a group and of those before it come to the rasp one by one, before a request of that group acts.
-use Rattle.std.specs.Prelude.{◌≡◌, ◌⊎◌, ◌<◌, ◌≤◌, ℕ, Bool, false, if◌then◌else◌, List, ◌++◌, length, take, drop, IsTrue}
-use Rattle.std.specs.List.{All}
-use Rattle.sam_pending.specs.Cells.{Cell, Change, IsBrought, IsTaken, by, in_rasp, part_by, place_at, rasp_of, removed, text_at, waiting_of}
+use Rattle.std.specs.Prelude.{◌≡◌, ◌⊎◌, ◌<◌, ◌≤◌, ◌-◌, ℕ, Bool, false, if◌then◌else◌, List, ◌++◌, length, take, drop, IsTrue}
+use Rattle.std.specs.List.{All, filter}
+use Rattle.sam_pending.specs.Cells.{Cell, Change, IsBrought, IsTaken, PartialText, by, in_rasp, part_by, place_at, rasp_of, removed, stands_at, take_by, text_at, waiting_of}
 
 -- group g, or one before it, takes the cell out of the rasp, or puts it in
 abbrev pub is_due_by : ℕ → Cell → Bool
@@ -21,6 +21,16 @@ pub record IsMadeBy (g : ℕ) (cs : List Cell) (e : Change) (ds : List Cell) : T
   pub due : All (λ c. IsTrue (is_due_by g c)) stretch
   pub made : IsTaken before stretch behind e ds ⊎ IsBrought before stretch behind e ds
 
+-- ## Places of the text that a request of group g comes to
+
+-- the members of the rasp from place p to place q that stand in it before place x
+abbrev pub gone_before : ℕ → ℕ → ℕ → ℕ → List Cell → PartialText
+gone_before g p q x cs = text_at g (filter in_rasp (part_by in_rasp p q (take_by (stands_at g) x cs)))
+
+-- where place x of it goes as the host removes them
+abbrev pub place_after_removal : ℕ → ℕ → ℕ → ℕ → List Cell → ℕ
+place_after_removal g p q x cs = x - length (gone_before g p q x cs)
+
 -- ## The laws
 
 -- while they come to the rasp, the text that a request of group g comes to stays
@@ -37,3 +47,9 @@ RemovalsGoOutOfText =
     (g p q : ℕ) (cs : List Cell) → p ≤ q
     → text_at g (removed p q cs)
     ≡ take (place_at g p cs) (text_at g cs) ++ text_at g (waiting_of (part_by in_rasp p q cs)) ++ drop (place_at g q cs) (text_at g cs)
+
+-- what it leaves of the text before a place is the text before that place afterwards
+abbrev pub RemovalsMovePlaces : Type 0
+RemovalsMovePlaces =
+    (g p q x : ℕ) (cs : List Cell) → p ≤ q → x ≤ length (text_at g cs)
+    → take (place_after_removal g p q x cs) (text_at g (removed p q cs)) ≡ text_at g (removed p q (take_by (stands_at g) x cs))

@@ -1,6 +1,6 @@
 -- Stretches of cells of one sort, as the code keeps them. The rasp below keeps its members, and the runes that wait stand in one text.
-use Rattle.std.specs.Prelude.{◌≡◌, ℕ, zero, suc, ◌+◌, ◌-◌, ◌≤◌, max, Bool, true, false, nat_lt, nat_le, ◌==◌, ◌&&◌, ◌||◌, if◌then◌else◌, List, [], ◌∷◌, ◌++◌, map, take, drop, Option, Some, None, is_none}
-use Rattle.sam_pending.specs.Cells.{Member, PartialText, Cell, Change, in_rasp, is_shown, is_group}
+use Rattle.std.specs.Prelude.{◌≡◌, ℕ, zero, suc, ◌+◌, ◌-◌, ◌≤◌, max, min, not, Bool, true, false, nat_lt, nat_le, ◌==◌, ◌&&◌, ◌||◌, if◌then◌else◌, List, [], ◌∷◌, ◌++◌, map, take, drop, Option, Some, None, is_none}
+use Rattle.sam_pending.specs.Cells.{Member, PartialText, Cell, Change, by, in_rasp, is_shown, is_group}
 use Rattle.sam_runes.specs.declared.edit.Edit.{Edit}
 use Rattle.sam_pending.specs.declared.run.Stretch.{Stretch}
 use Rattle.sam_pending.specs.declared.run.Run.{Run}
@@ -310,6 +310,37 @@ next_deed m xs = if has_due (Removes m) xs then Removes m else Inserts m
 -- some edit is due
 abbrev pub has_next : Option ℕ → List Run → Bool
 has_next m xs = has_due (Removes m) xs || has_due (Inserts m) xs
+
+-- ## Places of the text that a request of group g comes to
+
+-- the cells of the run stand in it
+abbrev pub run_stands : ℕ → Run → Bool
+run_stands g (Held n d) = not (by g d)
+run_stands g (Typed s b d) = nat_le b g && not (by g d)
+
+-- how many of n cells of the run are members of the rasp
+abbrev pub held_of : ℕ → Run → ℕ
+held_of n (Held k d) = n
+held_of n (Typed s b d) = 0
+
+-- how many cells of the run stand in it before a place of the rasp which is n members further on than the run begins
+abbrev pub before_place : ℕ → ℕ → Run → ℕ
+before_place g n (Held k d) = if run_stands g (Held k d) then min k n else 0
+before_place g n (Typed s b d) = if run_stands g (Typed s b d) && nat_lt 0 n then s.count else 0
+
+abbrev pub place_in : ℕ → ℕ → List Run → ℕ
+place_in g n [] = 0
+place_in g n (x ∷ xs) = before_place g n x + place_in g (n - room x) xs
+
+-- how many cells of the run stand in it before its place y, counted from the run on
+abbrev pub passed : ℕ → ℕ → Run → ℕ
+passed g y x = if run_stands g x then min (size x) y else 0
+
+-- of k members of the rasp, behind the n next ones, how many stand in it before its place y
+abbrev pub gone_in : ℕ → ℕ → ℕ → ℕ → List Run → ℕ
+gone_in g n k y [] = 0
+gone_in g n k y (x ∷ xs) =
+    min k (held_of (passed g y x) x - n) + gone_in g (n - room x) (k - (room x - n)) (y - passed g y x) xs
 
 -- ## What the code says of changes
 

@@ -1,7 +1,7 @@
 //! Laws of the definitions in specs/. Each is the contract of a function that does nothing; a caller's proof may use what it says.
 
 ghost use Rattle.std.specs.Prelude.{◌≡◌, ◌<◌, ◌≤◌, ◌+◌, ◌-◌, ◌++◌, ℕ, List, length, map, take, drop, reverse, Some, All};
-ghost use Rattle.sam_pending.specs.Groups.{EditsKeepText, PutIsText, RemovalsGoOutOfText};
+ghost use Rattle.sam_pending.specs.Groups.{EditsKeepText, PutIsText, RemovalsGoOutOfText, RemovalsMovePlaces};
 ghost use Rattle.sam_pending.specs.Cells.{Cell, PartialText, Change, put, all_put, members, in_rasp, is_shown, rasp_of, shown_of, waiting_of, resting, part_by, take_by, drop_by, shown_place, replaced, inserted, removed, filled, sent, changes_of, gone_from, IsOf, text_at, place_at, IsOldest, IsNewest, IsMade, IsTakenBack};
 
 /// States that what is typed is what is seen: `s` in place of what was shown from `p` to `q`. While the edit waits the rasp stays.
@@ -103,4 +103,10 @@ pub fn requests_find_what_was_shown()
     ensures keep { EditsKeepText }
     ensures put { PutIsText }
     ensures removed { RemovalsGoOutOfText }
+{}
+
+/// States where a place, of the text that a request comes to, goes as the host removes members of the rasp: what is left of the text before
+/// it is the text before it then. So a range of which all goes is empty there.
+pub fn places_stay_behind_their_text()
+    ensures { RemovalsMovePlaces }
 {}

@@ -6,6 +6,7 @@ mod due;
 mod fault;
 pub mod laws;
 mod pending;
+mod places;
 mod run;
 mod runs;
 mod told;

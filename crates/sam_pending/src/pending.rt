@@ -2,8 +2,8 @@
 
 ghost use Rattle.std.specs.Prelude.{◌≡◌, ◌⊎◌, ◌<◌, ◌≤◌, ◌+◌, ◌-◌, ◌++◌, ◌↔◌, IsTrue, ℕ, List, [], ◌∷◌, false, length, take, drop, map, reverse, Some, None, Ok, Err, IfOk, IfSome, OnOk, OnErr, MatchOption, All};
 ghost use Rattle.sam_runes.specs.Texts.{max_runes};
-ghost use Rattle.sam_pending.specs.Cells.{PartialText, IsMade, all_put, put, rasp_of, shown_of, shown_place, waiting_of, IsNewest, resting, replaced, inserted, removed, filled, sent};
-ghost use Rattle.sam_pending.specs.Groups.{IsMadeBy};
+ghost use Rattle.sam_pending.specs.Cells.{PartialText, IsMade, all_put, place_at, put, rasp_of, shown_of, shown_place, waiting_of, IsNewest, resting, replaced, inserted, removed, filled, sent};
+ghost use Rattle.sam_pending.specs.Groups.{IsMadeBy, place_after_removal};
 ghost use Rattle.sam_pending.specs.Runs.{rests, has_next, edit_change, removal_changes, filling_changes};
 ghost use Rattle.sam_pending.specs.Layers.{cells_over, rasp_length, waiting_length, shown_length, newest_group, sent_length, sent_text, shown_members, next_edit, next_made, DropsNext, first_dropped, with_runs, IsLayer, IsOver, IsTidied, AreShort, SaysLeft, most_kept};
 ghost use Rattle.sam_runes.specs.declared.edit.Edit.{Edit};
@@ -11,7 +11,7 @@ ghost use Rattle.sam_runes.specs.declared.edit.Edit.{Edit};
 use crate::fault::PendingFault;
 use crate::run::{Run, Stretch};
 use crate::told::{Dropped, Filling, Prepared, Removal, Sent, Shown};
-use crate::{due, runs};
+use crate::{due, places, runs};
 use sam_runes::{Edit, MAX_RUNES};
 use std::alloc::Global;
 use std::marker::Model;
@@ -252,6 +252,24 @@ impl Pending {
         }
         let (told, runs) = runs::removed(self.alloc, self.runs.as_slice(), p, q)?;
         Ok((told, Prepared { runs }))
+    }
+
+    /// Returns the place, of the text that a request of the group comes to, at place `p` of the rasp.
+    #[tactic(auto, using(crate::proofs::PlaceLaws::place_facts))]
+    pub fn place_at(&self, group: u32, p: u32) -> u32
+        ensures { (r : PartialText) → IsOver r self.now → result ≡ place_at group p (cells_over r self.now) }
+    {
+        places::place_at(self.runs.as_slice(), group, p)
+    }
+
+    /// Returns where a place, of the text that a request of the group comes to, goes as the host removes `count` members of the rasp from
+    /// place `p` on: as many to the front as stand before it in that text and go.
+    #[tactic(auto, using(crate::proofs::PlaceLaws::removal_facts))]
+    pub fn place_after_removal(&self, group: u32, place: u32, p: u32, count: usize) -> u32
+        ensures { (r : PartialText) → IsOver r self.now
+            → result ≡ place_after_removal group p (p + count) place (cells_over r self.now) }
+    {
+        places::place_after_removal(self.runs.as_slice(), group, place, p, count)
     }
 
     /// Makes a change of the host's that was prepared, of this layer as it is now. It takes no memory.

@@ -1,7 +1,8 @@
 //! Stretches of cells of one sort.
 
 ghost use Rattle.std.specs.Prelude.{◌≡◌, ◌≤◌, ◌<◌, ◌^◌, ◌∷◌, [], IfSome};
-ghost use Rattle.sam_pending.specs.Runs.{above, run_counts, size, head_of, tail_of, room, wait, newest_run, run_rests, reach, IsSame, is_due, is_up_to, made_run};
+ghost use Rattle.sam_pending.specs.Cells.{by};
+ghost use Rattle.sam_pending.specs.Runs.{above, held_of, run_counts, run_stands, size, head_of, tail_of, room, wait, newest_run, run_rests, reach, IsSame, is_due, is_up_to, made_run};
 ghost use Rattle.sam_pending.specs.declared.run.Run.TheVariants.{Held, Typed};
 
 /// Where runes stand in the text of those that wait.
@@ -38,6 +39,16 @@ pub enum Deed {
     Removes(Option<u32>),
     /// It puts runes in.
     Inserts(Option<u32>),
+}
+
+/// Returns whether a group, or one before it, is named.
+fn is_by(group: u32, named: Option<u32>) -> bool
+    ensures { result ≡ by group named }
+{
+    match named {
+        None => false,
+        Some(other) => other <= group,
+    }
 }
 
 /// Returns whether a group is not newer than the last one that is to come to the rasp, if there is a last one.
@@ -128,6 +139,26 @@ impl Run {
         match self {
             Run::Held(_, died) => died.unwrap_or(0),
             Run::Typed(_, born, died) => born.max(died.unwrap_or(0)),
+        }
+    }
+
+    /// Returns whether its cells stand in the text that a request of a group comes to.
+    pub fn stands_at(self, group: u32) -> bool
+        ensures { result ≡ run_stands group self }
+    {
+        match self {
+            Run::Held(_, died) => !is_by(group, died),
+            Run::Typed(_, born, died) => born <= group && !is_by(group, died),
+        }
+    }
+
+    /// Returns how many of so many of its cells are members of the rasp.
+    pub fn held_of(self, count: u32) -> u32
+        ensures { result ≡ held_of count self }
+    {
+        match self {
+            Run::Held(_, _) => count,
+            Run::Typed(_, _, _) => 0,
         }
     }
 

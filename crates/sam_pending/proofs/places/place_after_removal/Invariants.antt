@@ -1,0 +1,7 @@
+use Rattle.std.proofs.Common.{◌≡◌, ◌-◌, drop}
+use Rattle.sam_pending.specs.Runs.{gone_in}
+use Rattle.sam_pending.proofs.places.place_after_removal.Given as goal
+
+abbrev pub invariant-loop-run : goal.invariant-loop-run
+invariant-loop-run l =
+    l.after - gone_in l.group l.skipped l.range l.left (drop l.run-index l.runs) ≡ l.place - gone_in l.group l.p l.count l.place l.runs

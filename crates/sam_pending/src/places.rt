@@ -1,0 +1,67 @@
+//! Places of the text that a request of a group comes to.
+
+ghost use Rattle.std.specs.Prelude.{◌≡◌, ◌≤◌, ◌<◌, ◌+◌, ◌-◌, ◌^◌};
+ghost use Rattle.sam_pending.specs.Runs.{before_place, gone_in, passed, place_in, room, rooms, size, wait, waits};
+
+use crate::run::Run;
+
+/// Returns the place of that text at a place of the rasp.
+#[tactic(auto)]
+pub(crate) fn place_at(runs: &[Run], group: u32, place: u32) -> u32
+    requires { rooms runs.now + waits runs.now < 2 ^ 32 }
+    ensures { result ≡ place_in group place runs.now }
+{
+    let mut left = place;
+    let mut before = 0;
+    for run in runs {
+        before += before_place(*run, group, left);
+        left = left.saturating_sub(run.room());
+    }
+    before
+}
+
+/// Returns how many cells of the run stand in that text before a place of the rasp which is `left` members further on.
+fn before_place(run: Run, group: u32, left: u32) -> u32
+    ensures before { result ≡ before_place group left run }
+    ensures most { result ≤ room run + wait run }
+{
+    if !run.stands_at(group) {
+        return 0;
+    }
+    match run {
+        Run::Held(count, _) => count.min(left),
+        Run::Typed(runes, _, _) => { if left > 0 { runes.count } else { 0 } }
+    }
+}
+
+/// Returns where a place of that text goes as `count` members of the rasp are removed, from place `p` on.
+#[tactic(auto)]
+pub(crate) fn place_after_removal(runs: &[Run], group: u32, place: u32, p: u32, count: usize) -> u32
+    ensures { result ≡ place - gone_in group p count place runs.now }
+{
+    let mut after = place;
+    let mut left = place;
+    let mut skipped = p;
+    let mut range = count;
+    for run in runs {
+        let passed = passed(*run, group, left);
+        let held = run.held_of(passed).saturating_sub(skipped);
+        after = after.saturating_sub(range.min(held as usize) as u32);
+        left -= passed;
+        range = range.saturating_sub(run.room().saturating_sub(skipped) as usize);
+        skipped = skipped.saturating_sub(run.room());
+    }
+    after
+}
+
+/// Returns how many cells of the run stand in that text before its place that is `left` further on.
+fn passed(run: Run, group: u32, left: u32) -> u32
+    ensures passed { result ≡ passed group left run }
+    ensures most { result ≤ left }
+{
+    if run.stands_at(group) {
+        run.size().min(left)
+    } else {
+        0
+    }
+}
