@@ -29,6 +29,8 @@ use Rattle.sam_overlay.specs.declared.fault.PutFault.{PutFault}
 use Rattle.sam_overlay.specs.declared.fault.PutFault.TheVariants as unput
 use Rattle.sam_overlay.specs.declared.fault.ReplaceFault.{ReplaceFault}
 use Rattle.sam_overlay.specs.declared.ordered.OrderedOverlay.{OrderedOverlay}
+use Rattle.sam_overlay.specs.declared.shown_change.Asked.{Asked}
+use Rattle.sam_overlay.specs.declared.shown_change.Asked.TheVariants as asked
 use Rattle.sam_overlay.specs.declared.shown_change.Put.{Put as Became}
 use Rattle.sam_overlay.specs.declared.shown_change.Put.TheVariants as became
 use Rattle.sam_overlay.specs.declared.shown_change.Turn.{Turn}
@@ -80,8 +82,9 @@ edits_end : (o n : OrderedOverlay) (f p q : ℕ) (s : List ℕ) (answer : Result
 edits_end o n f p q s (Ok done) (tests, replaced, finds, others, end, putting, queue) = end
 edits_end o n f p q s (Err why) (tests, same) = ap (λ (x : OrderedOverlay). x.overlay.end) same
 
-asks_end : (o n : OrderedOverlay) (event : UserEvent) (answer : Result (Unit {0}) AskFault) → Asks o event answer n → n.overlay.end ≡ o.overlay.end
-asks_end o n event (Ok done) asks = ap (λ (x : OrderedOverlay). x.overlay.end) asks.asked.taken
+asks_end : (o n : OrderedOverlay) (event : UserEvent) (answer : Result Asked AskFault) → Asks o event answer n → n.overlay.end ≡ o.overlay.end
+asks_end o n event (Ok asked.New) asks = ap (λ (x : OrderedOverlay). x.overlay.end) asks.asked.taken
+asks_end o n event (Ok (asked.Shares place)) asks = ap (λ (x : OrderedOverlay). x.overlay.end) asks.asked.same
 asks_end o n event (Err why) asks = ap (λ (x : OrderedOverlay). x.overlay.end) asks.err
 
 acts_end : (o n : OrderedOverlay) (answer : Result Turn PutFault) → ActsNext o answer n → Quiet o.overlay.end n.overlay.end

@@ -28,6 +28,8 @@ use Rattle.sam_overlay.specs.declared.fault.PutFault.{PutFault}
 use Rattle.sam_overlay.specs.declared.fault.PutFault.TheVariants as unput
 use Rattle.sam_overlay.specs.declared.fault.ReplaceFault.{ReplaceFault}
 use Rattle.sam_overlay.specs.declared.ordered.OrderedOverlay.{OrderedOverlay}
+use Rattle.sam_overlay.specs.declared.shown_change.Asked.{Asked}
+use Rattle.sam_overlay.specs.declared.shown_change.Asked.TheVariants as asked
 use Rattle.sam_overlay.specs.declared.shown_change.OverlayStep.{OverlayStep}
 use Rattle.sam_overlay.specs.declared.shown_change.Put.{Put as Became}
 use Rattle.sam_overlay.specs.declared.shown_change.Put.TheVariants as became
@@ -168,9 +170,11 @@ edits_over o n f p q s (Ok done) (tests, replaced, finds, others, end, putting, 
         by (inr (b, apart)) = others g apart
 edits_over o n f p q s (Err why) (tests, same) over = same_over o.overlay n.overlay (ap (λ (x : OrderedOverlay). x.overlay) same) over
 
-asks_over : (o n : OrderedOverlay) (event : UserEvent) (answer : Result (Unit {0}) AskFault) → Asks o event answer n → OverOpen o.overlay
+asks_over : (o n : OrderedOverlay) (event : UserEvent) (answer : Result Asked AskFault) → Asks o event answer n → OverOpen o.overlay
     → OverOpen n.overlay
-asks_over o n event (Ok done) asks over = same_over o.overlay n.overlay (ap (λ (x : OrderedOverlay). x.overlay) asks.asked.taken) over
+asks_over o n event (Ok asked.New) asks over = same_over o.overlay n.overlay (ap (λ (x : OrderedOverlay). x.overlay) asks.asked.taken) over
+asks_over o n event (Ok (asked.Shares place)) asks over =
+    same_over o.overlay n.overlay (ap (λ (x : OrderedOverlay). x.overlay) asks.asked.same) over
 asks_over o n event (Err why) asks over = same_over o.overlay n.overlay (ap (λ (x : OrderedOverlay). x.overlay) asks.err) over
 
 acts_over : (o n : OrderedOverlay) (answer : Result Turn PutFault) → ActsNext o answer n → OverOpen o.overlay → OverOpen n.overlay

@@ -18,7 +18,7 @@ use Rattle.sam_line.specs.Calls.LineCall.{Acknowledge, AddressChanged, Ask, Brok
 use Rattle.sam_line.specs.Line as lines
 use Rattle.sam_line.specs.declared.line.Line.{Line}
 use Rattle.sam_overlay.specs.Calls.{Brings, CellsGo, DropsUpTo, Keeps, KeepsTexts, PlainOverlay, PutsUpTo, cells_at, shown_at}
-use Rattle.sam_overlay.specs.Ordered.{ActsNext, Asked, NoneFinds, closing_group, most_requests, new_ordered, ordered_checks}
+use Rattle.sam_overlay.specs.Ordered.{ActsNext, IsAsked, NoneFinds, closing_group, most_waiting_requests, new_ordered, ordered_checks, shared_with}
 use Rattle.sam_overlay.specs.Outcomes.{Leads, Replaces}
 use Rattle.sam_overlay.specs.Overlays.{StopsOnly, told_at}
 use Rattle.sam_overlay.specs.Requests.{put_limit}
@@ -28,6 +28,7 @@ use Rattle.sam_overlay.specs.declared.fault.PutFault.{PutFault}
 use Rattle.sam_overlay.specs.declared.fault.ReplaceFault.{ReplaceFault}
 use Rattle.sam_overlay.specs.declared.fault.ReplaceFault.TheVariants as refuses
 use Rattle.sam_overlay.specs.declared.ordered.OrderedOverlay.{OrderedOverlay}
+use Rattle.sam_overlay.specs.declared.shown_change.Asked.{Asked}
 use Rattle.sam_overlay.specs.declared.shown_change.OverlayStep.{OverlayStep}
 use Rattle.sam_overlay.specs.declared.shown_change.Put.{Put as Became}
 use Rattle.sam_overlay.specs.declared.shown_change.Turn.{Turn}
@@ -70,13 +71,14 @@ Edits o f p q s (Err why) n =
     ⊎ ((why ≡ refuses.OutOfMemory) × (first_of_checks (ordered_checks o f p q s) ≡ None)))
     × (n ≡ o)
 
--- the request waits behind the others, and comes to what is shown now; or why not, and all is as before
-pub record Asks (o : OrderedOverlay) (event : UserEvent) (answer : Result (Unit {0}) AskFault) (n : OrderedOverlay) : Type 0 where
-  pub asked : OnOk answer (Asked o event n)
+-- the request waits behind the others, or shares a write that waits, and comes to what is shown now; or why not, and all is as before
+pub record Asks (o : OrderedOverlay) (event : UserEvent) (answer : Result Asked AskFault) (n : OrderedOverlay) : Type 0 where
+  pub asked : IfOk answer (λ x. IsAsked o event x n)
   pub waiting : (answer ≡ Err unasked.Waiting) ↔ (is_some o.overlay.putting ≡ true)
-  pub many : (answer ≡ Err unasked.TooMany) ↔ ((o.overlay.putting ≡ None) × (most_requests ≤ length o.queue))
+  pub many : (answer ≡ Err unasked.TooMany) ↔ ((o.overlay.putting ≡ None) × (shared_with o event ≡ None) × (most_waiting_requests ≤ length o.queue))
   pub full : (answer ≡ Err unasked.CountFull)
-      ↔ ((o.overlay.putting ≡ None) × (length o.queue < most_requests) × (2 ^ 32 - 1 ≤ closing_group o))
+      ↔ ((o.overlay.putting ≡ None) × (shared_with o event ≡ None) × (length o.queue < most_waiting_requests)
+      × (2 ^ 32 - 1 ≤ closing_group o))
   pub err : OnErr answer (n ≡ o)
 
 -- the terminal's end goes on by one step, what is shown goes with it, and what a request comes to stays by an edit; or why not
@@ -99,7 +101,7 @@ TakesBack m o f answer n =
 pub data Act : Type 0 where
   OfLine : LineCall → Act  -- a call of the line that moves nothing between the two
   Replace : ℕ → ℕ → ℕ → List ℕ → Result (Unit {0}) ReplaceFault → Act  -- an edit of the user
-  Request : UserEvent → Result (Unit {0}) AskFault → Act  -- a request of the user, which waits behind those before it
+  Request : UserEvent → Result Asked AskFault → Act  -- a request of the user, which waits behind those before it
   TakeBack : ℕ → Result (Option Dropped) PendingFault → Act  -- runes for which this file has no room are taken back
   TellRefusal : Option (ℕ × Refusal) → Act  -- the oldest refusal of an event is told, if there is one
   Step : Result OverlayStep (EndpointFault TermStop) → Act  -- the terminal's end goes on by one step

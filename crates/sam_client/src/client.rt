@@ -14,7 +14,7 @@ ghost use Rattle.sam_client.specs.Clients.Act.{OfLine, Replace, Request, TakeBac
 use crate::packet::Packet;
 use sam_line::{Line, ReceiveFault, Tick};
 use sam_link::{CallFault, Id, NotOpen, PutFault};
-use sam_overlay::{AskFault, OrderedOverlay, Overlay, ReplaceFault};
+use sam_overlay::{AskFault, Asked, OrderedOverlay, Overlay, ReplaceFault};
 use sam_pending::{Dropped, PendingFault};
 use sam_term::UserEvent;
 use std::alloc::Global;
@@ -149,10 +149,11 @@ impl Client {
         self.ordered.replace(tag, p, q, runes)
     }
 
-    /// Takes a request of the user in behind the others, as `OrderedOverlay::ask` does: an event that leaves each text but that of the
-    /// command file (`is_request` of sam_overlay). It acts as the client goes on, and comes to the text that is shown now, with the host's
-    /// changes since. Errors are those of that call, in its order; after each all is as before.
-    pub fn ask(&mut self, event: UserEvent) -> Result<(), AskFault>
+    /// Takes a request of the user in behind the others, as `OrderedOverlay::ask` does, and says which write that waits it shares, if it
+    /// shares one: an event that leaves each text but that of the command file (`is_request` of sam_overlay). It acts as the client goes
+    /// on, and comes to the text that is shown now, with the host's changes since. Errors are those of that call, in its order; after each
+    /// all is as before.
+    pub fn ask(&mut self, event: UserEvent) -> Result<Asked, AskFault>
         requires { IsTrue (is_request event) }
         ensures { Does self.old (Request event result) self.new }
     {
