@@ -11,7 +11,8 @@ static const struct {
     const char *name;
     struct report (*job)(uint32_t size);
 } JOBS[] = {
-    {"find", find}, {"x", x}, {"undo", undo}, {"both_ends", both_ends}, {"files", files}, {"linked", linked}, {"unlinked", unlinked},
+    {"find", find},           {"x", x},           {"undo", undo},         {"both_ends", both_ends}, {"files", files}, {"waiting", waiting},
+    {"scattered", scattered}, {"linked", linked}, {"unlinked", unlinked},
 };
 
 int main(int words, char **word)

@@ -17,6 +17,8 @@ struct report x(uint32_t size);
 struct report undo(uint32_t size);
 struct report both_ends(uint32_t size);
 struct report files(uint32_t size);
+struct report waiting(uint32_t size);
+struct report scattered(uint32_t size);
 struct report linked(uint32_t size);
 struct report unlinked(uint32_t size);
 

@@ -13,6 +13,7 @@ mod host;
 mod sample;
 mod terminal;
 mod undo;
+mod waiting;
 
 pub struct Report {
     pub took: Duration,
@@ -45,6 +46,8 @@ fn main() {
         "undo" => undo::undone(size),
         "both_ends" => both::carried(size),
         "files" => both::opened(size),
+        "waiting" => waiting::sent(size, false),
+        "scattered" => waiting::sent(size, true),
         _ => panic!("no such job"),
     };
     println!("{job} {size} {} {}", report.took.as_nanos(), report.check);
