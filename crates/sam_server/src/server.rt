@@ -1,6 +1,6 @@
 //! A server that goes on after a crash.
 
-ghost use Rattle.std.specs.Prelude.{◌≡◌, IfOk, drop, min, option_map, slice_get};
+ghost use Rattle.std.specs.Prelude.{◌≡◌, IfOk, drop, min, option_copied, option_map, slice_get};
 ghost use Rattle.sam_link.specs.End.{broken};
 ghost use Rattle.sam_server.specs.DurableServers.{Finishing, GoesOn, GoesOnNow, Prepares, RefusesHello, RefusesPiece, TakesOutDurable, TakesRecord, bytes_in, due_behind, durable_by, new_durable_server, out_room, settled, told_of_feed, with_link};
 ghost use Rattle.sam_server.specs.Records.{Called, Came, plain, record_bytes};
@@ -271,6 +271,16 @@ impl DurableServer {
         self.gate.durable(count);
         if let Some(left) = self.due {
             self.due = Some(left.saturating_sub(count));
+        }
+    }
+
+    /// Lends the bytes of the record that `next_record` hands out; `None` if there is none.
+    pub fn first_record(&self) -> Option<&[u8]>
+        ensures { option_copied result ≡ slice_get self.now.records 0 }
+    {
+        match self.records.front() {
+            Some(body) => Some(body.as_slice()),
+            None => None,
         }
     }
 
