@@ -1,5 +1,6 @@
 pub mod DurableServers
 pub mod Gates
+pub mod Heirs
 pub mod HostLinks
 pub mod One
 pub mod OneMade

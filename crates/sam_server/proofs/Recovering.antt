@@ -1,11 +1,9 @@
 -- A turn that takes a record again.
-use Rattle.std.proofs.Common.{◌≡◌, ℕ, ◌+◌, ◌-◌, ◌<◌, ◌≤◌, List, [], ◌∷◌, length, drop, Bool, true, false, None, Some, Option, Result, Ok, Err, refl, sym, ap, ◌∙◌, subst, arith}
+use Rattle.std.proofs.Common.{◌≡◌, ℕ, List, true, false, Some, Option, Result, Ok, Err, refl, sym, ap, ◌∙◌, subst, arith}
 use Rattle.sam_runes.specs.Checks.{first_of_checks}
 use Rattle.sam_link.specs.Calls.{Does}
 use Rattle.sam_link.specs.Calls.Call.{Acknowledge, Ask, Feed, PutNote}
-use Rattle.sam_link.specs.End.{End, AnswersBy, gone, refusal_of}
-use Rattle.sam_link.specs.Inbox.{Waiting}
-use Rattle.sam_link.specs.Meeting.{to_go}
+use Rattle.sam_link.specs.End.{End, AnswersBy, refusal_of}
 use Rattle.sam_link.specs.declared.fault.FeedFault.{FeedFault}
 use Rattle.sam_link.specs.declared.fault.FeedFault.TheVariants as feeds
 use Rattle.sam_link.specs.declared.fault.NoteFault.{NoteFault}

@@ -9,7 +9,7 @@ use Rattle.sam_link.specs.Calls.{Does}
 use Rattle.sam_link.specs.Calls.Call.{Put}
 use Rattle.sam_link.specs.End.{End}
 use Rattle.sam_link.specs.Inbox.{Waiting}
-use Rattle.sam_link.specs.Keeping.{HasRoom as HasRoomToKeep, Keeps}
+use Rattle.sam_link.specs.Keeping.{HasRoom as HasRoomToKeep}
 use Rattle.sam_link.specs.Putting.{data_stream}
 use Rattle.sam_link.specs.declared.keeping.PutFault.TheVariants as puts
 use Rattle.sam_frame.specs.Direction.{terminal}

@@ -6,3 +6,4 @@ pub mod Gates
 pub mod HostLinks
 pub mod Servers
 pub mod Turns
+pub mod Heirs

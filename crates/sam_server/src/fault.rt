@@ -38,3 +38,17 @@ pub enum GoOnFault {
 #[derive(Clone, Copy, Debug, PartialEq, Eq, Drop, Error)]
 #[error("no effect waits")]
 pub struct NoEffect;
+
+/// Why another server doesn't begin with the texts of this one, in the order of the tests. Nothing has changed.
+#[derive(Clone, Copy, Debug, PartialEq, Eq, Drop, Error)]
+pub enum HeirFault {
+    /// Something that was taken is not done to its end, since memory was refused: call `go_on` before.
+    #[error("some of what came before waits")]
+    Waiting,
+    /// An effect waits, and messages may wait behind it: let it be done before.
+    #[error("an effect waits")]
+    EffectWaits,
+    /// Memory was refused.
+    #[error("out of memory")]
+    OutOfMemory,
+}

@@ -15,6 +15,7 @@ mod effect;
 mod fault;
 mod gate;
 mod giving;
+mod heir;
 mod host_link;
 mod laws;
 mod reading;
@@ -27,7 +28,7 @@ mod turn;
 mod writing;
 
 pub use effect::Effect;
-pub use fault::{CallFault, GoOnFault, NoEffect};
+pub use fault::{CallFault, GoOnFault, HeirFault, NoEffect};
 pub use gate::{Gate, Mark};
 pub use laws::{one_is_made, one_record};
 pub use reading::read_record;

@@ -132,6 +132,11 @@ impl DurableServer {
         }
     }
 
+    /// Returns the allocator that the server was made with.
+    pub(crate) fn alloc(&self) -> Global {
+        self.alloc
+    }
+
     /// Returns the bytes of a record that may be taken now.
     pub(crate) fn prepare<F>(&self, taken: Record<'_>) -> Result<Vec<u8>, CallFault<F>>
         ensures { Prepares self.now.stage (record_bytes (plain taken.entry)) result }

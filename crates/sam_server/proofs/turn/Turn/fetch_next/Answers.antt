@@ -1,4 +1,4 @@
-use Rattle.std.proofs.Common.{◌≡◌, Bool, Result, subst, sym}
+use Rattle.std.proofs.Common.{Bool, Result, subst, sym}
 use Rattle.sam_server.specs.Turns.{Fetched, GoesOn, IsStill, PlainTurn, held_in}
 use Rattle.sam_server.specs.contracts.turn.Turn.{the_view}
 use Rattle.sam_server.specs.declared.host_link.Next.{Next}
