@@ -26,11 +26,11 @@
  * (U+0000) as they hold any other rune, and no call adds one at their end: go by the lengths. Runes are counted by uint32_t; bytes in
  * memory, the room of a buffer, tags and lines of a script by size_t; events, messages and the bytes of a whole stream by uint64_t.
  *
- * Handles. sam_host, sam_term, sam_overlay, sam_link and sam_line are the caller's, on the stack or anywhere else. A handle whose bytes
- * are all zero is empty: SAM_HOST_INIT, SAM_TERM_INIT, SAM_OVERLAY_INIT, SAM_LINK_INIT and SAM_LINE_INIT are, and in C so is {0}.
- * sam_host_new and its like make it, and sam_host_free and its like leave it empty again. The caller doesn't read, change or copy a handle
- * that is made. Readers take it without const, because each call takes out the content of the handle and puts it back: two of them may not
- * run at once.
+ * Handles. sam_host, sam_term, sam_overlay, sam_link, sam_line and sam_client are the caller's, on the stack or anywhere else. A handle
+ * whose bytes are all zero is empty: SAM_HOST_INIT, SAM_TERM_INIT, SAM_OVERLAY_INIT, SAM_LINK_INIT, SAM_LINE_INIT and SAM_CLIENT_INIT are,
+ * and in C so is {0}. sam_host_new and its like make it, and sam_host_free and its like leave it empty again. The caller doesn't read,
+ * change or copy a handle that is made. Readers take it without const, because each call takes out the content of the handle and puts it
+ * back: two of them may not run at once.
  *
  * Status. Each call returns an enum sam_status, but for sam_library_version, sam_status_text and sam_is_stop, and hands other results out
  * through pointers. A call refuses a handle that is NULL or empty first of all (SAM_NO_HANDLE); its comment says the refusals after that.
@@ -117,8 +117,9 @@ enum sam_status {
     SAM_MADE = 5,       /* the handle is made already */
     SAM_NOT_TEXT = 6,   /* the bytes are not UTF-8 */
     SAM_NONE = 7,       /* there is no such file, or nothing more to hand out */
-    SAM_WAITING = 8,    /* earlier work waits, and the input was not taken: step (at an overlay take the splices), then call again */
+    SAM_WAITING = 8,    /* earlier work waits, and the input was not taken: step, or take the splices that are left, then call again */
     SAM_NO_ROOM = 9,    /* the buffer has less room than what is handed out may need, and nothing was done */
+    SAM_TOO_MANY = 10,  /* 1,000 requests of a client wait, and this one was not taken: go on, and ask again */
 
     SAM_ADD = 16, /* sam_host_add_file refused a file, and the host is as it was */
     /* SAM_ADD + 1 was SAM_ADD_BEGUN, of a host that was fed already: it is not given again */
@@ -253,6 +254,13 @@ struct sam_line {
 };
 typedef struct sam_line sam_line;
 
+/* The handle of a client. Both fields are the library's. */
+struct sam_client {
+    void *at;
+    uint64_t made;
+};
+typedef struct sam_client sam_client;
+
 /* Empty handles, as in `sam_host host = SAM_HOST_INIT;`. */
 /* clang-format off */
 #define SAM_HOST_INIT {NULL, 0}
@@ -260,6 +268,7 @@ typedef struct sam_line sam_line;
 #define SAM_OVERLAY_INIT {NULL, 0}
 #define SAM_LINK_INIT {NULL, 0}
 #define SAM_LINE_INIT {NULL, 0}
+#define SAM_CLIENT_INIT {NULL, 0}
 /* clang-format on */
 
 /* ---- Single steps ---- */
@@ -1412,6 +1421,216 @@ SAM_MUST_USE sam_status sam_line_describe(sam_line *line, uint64_t now, sam_line
 /* Copies the words that came on the newest connection before the host's hello, perhaps of a login, as many bytes as fit, and hands out
  * their number. They are bytes, and need be no text. A room of 65,536 bytes is always enough while a connection stands. */
 SAM_MUST_USE sam_status sam_line_words(sam_line *line, uint8_t *into, size_t room, size_t *len);
+
+/* ==== A client ====
+ *
+ * Begin here for a front end whose user never waits, over connections that may break. A client is the user's side of a session in one
+ * handle: an overlay, and its line to the host. It moves all between the two by itself: frames, edits that wait, notes, questions to the
+ * host. It opens no connection and has no clock. The program is a loop round a call that sleeps, as poll does:
+ *
+ *     sam_client_tick(&client, now, &tick)              until SAM_TICK_NOTHING; SAM_TICK_CONNECT: the program opens a connection
+ *     sam_client_connected(&client, now, &attempt)      it is open; or sam_client_not_connected, if it can't be made
+ *     sam_client_receive(&client, attempt, .., now)     all bytes that came on it; sam_client_broken: it has ended
+ *     sam_client_replace(&client, tag, ..)              the user typed: it is shown from now on, whatever is locked or broken
+ *     sam_client_ask(&client, &event, ..)               the user asked for something else: a file, a write, a search, a command line
+ *     sam_client_next_event(&client, now, &kind, &did)  after any of these, until SAM_CLIENT_IDLE
+ *     sam_client_next_splice(&client, &splice)          at SAM_CLIENT_STEPPED: each goes into the editor's own text, until SAM_NONE
+ *     sam_client_note(&client, ..)                      at SAM_CLIENT_NOTE: a message of the host's program
+ *     sam_client_take_out(&client, attempt, ..)         bytes for the connection, until it hands out 0
+ *     sam_client_due_in(&client, now, &left)            the program may sleep so long, or until bytes or keys come
+ *
+ * The editor's own text is the shown text, if it takes each splice before it tells of an edit. Places count runes and gaps of the shown
+ * text; a replacement makes no splice. A connection that breaks takes nothing of what the user did: it goes to the host over the next one.
+ * Before it leaves, a program looks at sam_client_has_all. `now` is the time, as for a line: milliseconds of any clock that doesn't jump.
+ * The structs and the numbers are those of an overlay (sam_splice, sam_event), of a terminal (sam_did, sam_state, sam_file) and of a line
+ * (enum sam_tick, sam_line_details). docs/howto/EMBEDDING.md has the loop. Of these calls sam_client_new, _receive, _acknowledge,
+ * _next_event, _put_note, _replace, _ask and _drop_next take memory, the others none. */
+
+/* What a client tells as it goes on. */
+enum sam_client_event {
+    SAM_CLIENT_IDLE = 0,    /* nothing moves until the host or the user does something, or the time comes */
+    SAM_CLIENT_BUSY = 1,    /* 1,000 things moved that are not told, and more may: call again */
+    SAM_CLIENT_STEPPED = 2, /* a frame was received or an event acted, as sam_did says; the splices are to be taken */
+    SAM_CLIENT_REFUSED = 3, /* a request was refused: sam_did has its number and why */
+    SAM_CLIENT_NOTE = 4,    /* a note came: sam_client_note copies it; all frames before it are received */
+
+    SAM_CLIENT_WIDTH = 0x7FFFFFFF /* never handed out: it keeps the type at 32 bits under any compiler's options */
+};
+typedef enum sam_client_event sam_client_event;
+
+/* ---- A client: making and freeing ---- */
+
+/* Makes a client that knows no file, and whose first connection is due at once. The id is the session's name: 16 bytes that the terminal
+ * chose at random. It is no secret. With `take_over`, the session is to begin with the texts of another, as long as no host has welcomed
+ * this client. Then ask for SAM_EVENT_OFFER_VERSION, which names the host's files. Refused, in this order: SAM_NO_HANDLE if the handle is
+ * NULL; SAM_MADE if it is made already; SAM_NO_MEMORY. The handle is then as it was. */
+SAM_MUST_USE sam_status sam_client_new(sam_client *client, const uint8_t id[SAM_LINK_ID_BYTES], bool take_over, uint64_t now);
+
+/* Frees a client, with what waits and with all the bytes that it keeps, and leaves the handle empty. Refused: SAM_NO_HANDLE if the handle
+ * is NULL or empty. */
+sam_status sam_client_free(sam_client *client);
+
+/* ---- A client: connections ---- */
+
+/* Hands out what the program is to do at this time (enum sam_tick). What it hands out counts as begun: another call at the same time hands
+ * out something else, so call it until it hands out SAM_TICK_NOTHING. At SAM_TICK_ASK go on (sam_client_next_event): that asks the host. */
+SAM_MUST_USE sam_status sam_client_tick(sam_client *client, uint64_t now, uint32_t *tick);
+
+/* Hands out the number of milliseconds until sam_client_tick has something to say, if no other call comes before. Returns SAM_NONE if it
+ * never has. */
+SAM_MUST_USE sam_status sam_client_due_in(sam_client *client, uint64_t now, uint64_t *left);
+
+/* Takes a connection that the program has opened: the connection before is over. Hands out its number, counted from 1, which names it in
+ * the calls below. Send the bytes of sam_client_take_out: its hello. Refused: SAM_COUNT_FULL after 2^64-1 connections. */
+SAM_MUST_USE sam_status sam_client_connected(sam_client *client, uint64_t now, uint64_t *attempt);
+
+/* Gives up the connection for which SAM_TICK_CONNECT asked, because it can't be made: another is tried after a pause. At any other time it
+ * changes nothing. */
+SAM_MUST_USE sam_status sam_client_not_connected(sam_client *client, uint64_t now);
+
+/* Ends a connection, because it broke or because the program gives it up: another is tried after a pause, as by sam_line_broken. Nothing
+ * changes if it isn't the newest, or is over already. */
+SAM_MUST_USE sam_status sam_client_broken(sam_client *client, uint64_t attempt, uint64_t now);
+
+/* Doubts an open connection, because an address of the machine came or went, as sam_line_address_changed does. Then go on: the host is
+ * asked. */
+SAM_MUST_USE sam_status sam_client_address_changed(sam_client *client, uint64_t now);
+
+/* Notes whether the program waits for an answer of the host's program, as to a note of its own: a host that doesn't answer is found out
+ * then, as by sam_line_expect. */
+SAM_MUST_USE sam_status sam_client_expect(sam_client *client, bool expects, uint64_t now);
+
+/* Takes bytes that came on a connection, from its first one on, in pieces of any length, all or none. Then go on. Its refusals are those of
+ * sam_line_receive, in its order. */
+SAM_MUST_USE sam_status sam_client_receive(sam_client *client, uint64_t attempt, const uint8_t *bytes, size_t len, uint64_t now);
+
+/* Moves the next bytes for a connection into the buffer, as many as there are and fit, and hands out their number: first the hello, and
+ * then the stream from the place where this connection goes on. Go on before, so that all is there. Refused: SAM_LINK_NOT_OPEN if the
+ * connection is over or isn't the newest. */
+SAM_MUST_USE sam_status sam_client_take_out(sam_client *client, uint64_t attempt, uint8_t *into, size_t room, size_t *count);
+
+/* Acknowledges all bytes that have come. The client does so by itself when it is asked, and after each 16,384 bytes. Refused, in this
+ * order: SAM_COUNT_FULL; SAM_NO_MEMORY. */
+SAM_MUST_USE sam_status sam_client_acknowledge(sam_client *client);
+
+/* ---- A client: what is told ---- */
+
+/* Goes on until there is something to tell, and hands out what (enum sam_client_event). Bytes of the host are received, requests and edits
+ * that wait act once they can, and all that is composed goes into the line. Call it after each call that brought something, until it hands
+ * out SAM_CLIENT_IDLE, and take all splices before each call. `did` is as sam_overlay_step hands it out at SAM_CLIENT_STEPPED, and has
+ * `event` and `why` alone at SAM_CLIENT_REFUSED: which event it was, counted from 1 over all events that acted or were refused, edits that
+ * were put among them, and SAM_REFUSAL... Else its fields are 0. Refused, in this order, and nothing is handed out then: SAM_WAITING if
+ * splices are left, and all is as it was. Else some of what waited may be done, and nothing is lost: why the terminal has stopped, at this
+ * call or before, SAM_STREAM.. or SAM_TERM_REFUSED..; SAM_COUNT_FULL; SAM_UNFINISHED if memory is short: call it again later. */
+SAM_MUST_USE sam_status sam_client_next_event(sam_client *client, uint64_t now, sam_client_event *kind, sam_did *did);
+
+/* Hands out the next change of the shown text by the last step. Returns SAM_NONE if none is left. */
+SAM_MUST_USE sam_status sam_client_next_splice(sam_client *client, sam_splice *splice);
+
+/* Copies the note that was told last (SAM_CLIENT_NOTE), and hands out its length in bytes, which may be 0. It stays until the next one is
+ * told. Before the first it has 0 bytes. Refused: SAM_NO_ROOM if the buffer has less room than the note; a room of 4,096 bytes is always
+ * enough. */
+SAM_MUST_USE sam_status sam_client_note(sam_client *client, uint8_t *into, size_t room, size_t *len);
+
+/* Puts a note for the host's program, behind all that was composed. So it comes out behind the edits and events that have acted, and
+ * before those that wait. Refused, in this order, and the note is not put then: SAM_LINK_TOO_LONG for more than 4,096 bytes;
+ * SAM_COUNT_FULL; SAM_NO_MEMORY. */
+SAM_MUST_USE sam_status sam_client_put_note(sam_client *client, const uint8_t *bytes, size_t len, uint64_t now);
+
+/* ---- A client: what the user does ---- */
+
+/* Replaces the shown runes of a file from the place `start` to the place `end` by a text of any length, all or nothing. The new runes stand
+ * behind what is shown before `start`. They are shown at once, whatever is locked, and go to the host as the client goes on; no request
+ * that was asked for before finds them. Its refusals are those of sam_overlay_replace, in its order; but before its SAM_REFUSAL_EXITED
+ * comes that if a request waits that ends the session, and then SAM_REFUSAL_NOT_OPEN if one waits that closes the file. */
+SAM_MUST_USE sam_status sam_client_replace(sam_client *client, uint16_t tag, uint32_t start, uint32_t end, const uint8_t *text, size_t len);
+
+/* Asks for what is no edit: an event of an overlay (enum sam_event_kind), with its text if it brings one. It stands in one order with the
+ * edits: it acts as the client goes on, once all edits before it are put, and finds the text that is shown now, with the host's changes
+ * since. A place that it names is one of that text, and doesn't move with them. Requests act in the order in which they were asked for.
+ * Refused, in this order, and the client is then as it was: SAM_NOT_TEXT if the text is not UTF-8; SAM_NO_MEMORY if there is no memory for
+ * its runes; SAM_NONE if no event has this kind; SAM_WAITING while an edit was put that has not acted: go on first; SAM_TOO_MANY if 1,000
+ * requests wait; SAM_COUNT_FULL if 2^32-1 were taken while edits or requests waited; SAM_NO_MEMORY. */
+SAM_MUST_USE sam_status sam_client_ask(sam_client *client, const sam_event *event, const uint8_t *text, size_t len);
+
+/* Takes back the next insertion that waits over a file, if an edit could act at once and the file has no room for this one, because the
+ * host put more in meanwhile. Ask for it where the client is idle and edits wait over a free file. Copies its runes in UTF-8, all of them,
+ * and hands out the number of bytes, and the splice by which they went of the shown text, as sam_overlay_drop_next does, with its
+ * refusals. */
+SAM_MUST_USE sam_status sam_client_drop_next(sam_client *client, uint16_t tag, sam_splice *splice, uint8_t *into, size_t room, size_t *len);
+
+/* ---- A client: readers of the session ---- */
+
+/* Hands out whether the host has all that the user did, and all notes: no edit and no request waits, no event is held, all is sent, and
+ * the host's end of the link has acknowledged all. */
+SAM_MUST_USE sam_status sam_client_has_all(sam_client *client, bool *has);
+
+/* Hands out whether the shown text of a file may differ from the text that was written last: an edit waits over it, or sam_term_is_changed
+ * says so. False for a tag without a file, and for tag 0. */
+SAM_MUST_USE sam_status sam_client_is_unsaved(sam_client *client, uint16_t tag, bool *unsaved);
+
+/* Hands out the number of requests that wait for edits or other requests before them, or for a lock of the command line; not one that the
+ * terminal has and that has not acted. */
+SAM_MUST_USE sam_status sam_client_requests(sam_client *client, size_t *count);
+
+/* Hands out the state, the counts and the times of the line to the host, in one call, as sam_line_describe does. Its has_all speaks of the
+ * line alone. */
+SAM_MUST_USE sam_status sam_client_describe(sam_client *client, uint64_t now, sam_line_details *details);
+
+/* Copies the words that came on the newest connection before the host's hello, as sam_line_words does. */
+SAM_MUST_USE sam_status sam_client_words(sam_client *client, uint8_t *into, size_t room, size_t *len);
+
+/* ---- A client: the terminal ---- */
+
+/* Hands out the fields of sam_state at once, each as the reader sam_term_.. of its name does. */
+SAM_MUST_USE sam_status sam_client_state(sam_client *client, sam_state *state);
+
+/* Hands out the answers of several readers of one tag at once, as sam_overlay_file does. */
+SAM_MUST_USE sam_status sam_client_file(sam_client *client, uint16_t tag, sam_file *file);
+
+/* Copies the name of a known file in UTF-8, as many whole runes as fit, and hands out the number of bytes. A room of 256 bytes is always
+ * enough. Returns SAM_NONE if the terminal knows no file of this tag. */
+SAM_MUST_USE sam_status sam_client_name(sam_client *client, uint16_t tag, uint8_t *into, size_t room, size_t *len);
+
+/* Hands out the file that the host's answer to SAM_EVENT_WORK or SAM_EVENT_NEW_FILE named last. It may be closed since. Returns SAM_NONE if
+ * the host has named none yet. */
+SAM_MUST_USE sam_status sam_client_current(sam_client *client, uint16_t *tag);
+
+/* Copies the pattern that the host reported last, in UTF-8, as many whole runes as fit, and hands out the number of bytes. A room of 512
+ * bytes is always enough. */
+SAM_MUST_USE sam_status sam_client_pattern(sam_client *client, uint8_t *into, size_t room, size_t *len);
+
+/* Copies the snarfed text that the host sent last (SAM_EVENT_GET_SNARF), from the place `place` on, in UTF-8, as many whole runes as fit.
+ * Hands out the number of bytes and the number of runes. */
+SAM_MUST_USE sam_status sam_client_snarfed(sam_client *client, uint32_t place, uint8_t *into, size_t room, size_t *bytes, uint32_t *runes);
+
+/* Hands out the number of bytes of the host's stream before the frame that is wrong, as sam_term_fault_place does. */
+SAM_MUST_USE sam_status sam_client_fault_place(sam_client *client, uint64_t *place);
+
+/* ---- A client: shown texts of open files ---- */
+
+/* Hands out the number of runes that wait over a file, as sam_overlay_waiting does. */
+SAM_MUST_USE sam_status sam_client_waiting(sam_client *client, uint16_t tag, uint32_t *runes);
+
+/* Hands out the first file from the tag `from` on over which an edit waits, as sam_overlay_next_waiting does. Returns SAM_NONE if there is
+ * none. */
+SAM_MUST_USE sam_status sam_client_next_waiting(sam_client *client, uint16_t from, uint16_t *tag);
+
+/* Hands out the length of the shown text of an open file in runes, gaps counted. Returns SAM_NONE if the file is not open. */
+SAM_MUST_USE sam_status sam_client_len(sam_client *client, uint16_t tag, uint32_t *runes);
+
+/* Hands out the first place of the shown text of an open file, at or after `place`, whose rune is not loaded. Returns SAM_NONE if the file
+ * is not open, or if all are loaded from there on: sam_client_len tells the two apart. */
+SAM_MUST_USE sam_status sam_client_first_gap(sam_client *client, uint16_t tag, uint32_t place, uint32_t *gap);
+
+/* Copies the shown runes of an open file from the place `place` on as numbers, as many as there are and fit, with SAM_GAP for each that is
+ * not loaded. Hands out their number. The room counts runes. Returns SAM_NONE if the file is not open. */
+SAM_MUST_USE sam_status sam_client_read(sam_client *client, uint16_t tag, uint32_t place, uint32_t *into, size_t room, uint32_t *count);
+
+/* Copies the shown text of an open file from the place `place` on, up to the first rune that is not loaded, in UTF-8, as many whole runes
+ * as fit, as sam_overlay_text does. Hands out the number of bytes and the number of runes. Returns SAM_NONE if the file is not open. */
+SAM_MUST_USE sam_status sam_client_text(sam_client *client, uint16_t tag, uint32_t place, uint8_t *into, size_t room, size_t *bytes,
+                                        uint32_t *runes);
 
 /* ==== The messages of a session ====
  *

@@ -34,8 +34,9 @@ const char *sam_status_text(sam_status status)
         TEXT(SAM_MADE, "the handle is made already");
         TEXT(SAM_NOT_TEXT, "the bytes are not UTF-8");
         TEXT(SAM_NONE, "there is no such file, or nothing more to hand out");
-        TEXT(SAM_WAITING, "some of what came before waits, so make steps first; what the call brought was not taken");
+        TEXT(SAM_WAITING, "some of what came before waits, so make steps or take the splices first; what the call brought was not taken");
         TEXT(SAM_NO_ROOM, "the buffer has less room than what is handed out may need, and nothing was done");
+        TEXT(SAM_TOO_MANY, "1,000 requests wait, so go on first; what the call brought was not taken");
         TEXT(SAM_ADD_TOO_LONG, "the name has more than 64 runes, or the text more than 1,000,000");
         TEXT(SAM_ADD_NO_TAG, "all 65,536 tags were given");
         TEXT(SAM_MARK_COMMAND_FILE, "the file is the command file, which is never dirty");

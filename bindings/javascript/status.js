@@ -13,6 +13,7 @@ export const Status = Object.freeze({
   NONE: 7,
   WAITING: 8,
   NO_ROOM: 9,
+  TOO_MANY: 10,
   ADD_TOO_LONG: 19,
   ADD_NO_TAG: 20,
   BAD_KIND: 33,

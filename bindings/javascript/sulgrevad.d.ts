@@ -71,6 +71,7 @@ export declare const Status: {
   readonly NONE: 7;
   readonly WAITING: 8;
   readonly NO_ROOM: 9;
+  readonly TOO_MANY: 10;
   readonly ADD_TOO_LONG: 19;
   readonly ADD_NO_TAG: 20;
   readonly BAD_KIND: 33;

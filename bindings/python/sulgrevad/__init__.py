@@ -22,7 +22,8 @@ program gives may be a `str`, or its UTF-8 as `bytes`.
 Words: the dot is the selection, a place an offset in runes, the snarf buffer the clipboard, which the host holds. A message goes to the
 host, a frame to the terminal. docs/reference/GLOSSARY.md has the other words.
 
-An `Overlay` is a terminal for an editor that takes each key at once: what its user does is shown while it waits.
+An `Overlay` is a terminal for an editor that takes each key at once: what its user does is shown while it waits. A
+`Client` is that and its line to the host, for a front end whose connections may break.
 
 A `Link` carries the bytes of both, and notes of the program, over connections that may break at any byte. A `Line` is the terminal's end of
 one that also says when to connect, to ask and to give up. docs/howto/RECONNECTING.md has the order of calls. `sulgrevad.aio` does all of it
@@ -51,11 +52,12 @@ Each call of the library keeps the interpreter's lock, so threads may share a ha
 your own there. `text`, `saved` and `snarfed` read a long text by several calls: let no other thread change it meanwhile.
 
 A signal's handler that raises, as Python's own for ^C does, may break in once the library has done a call. Then nobody knows whether a
-piece or an event was taken, and the result of `step`, `edits`, `next_written`, `next_refusal` or `changed` is lost. So a program that goes
-on after a signal has a handler that only notes it. A `MemoryError` of Python's own may lose the results of these and of `add_file`, too;
-but nothing that a link hands out.
+piece or an event was taken, and the result of `step`, `next_event`, `edits`, `next_written`, `next_refusal` or `changed` is lost. So a
+program that goes on after a signal has a handler that only notes it. A `MemoryError` of Python's own may lose the results of these and of
+`add_file`, too; but nothing that a link hands out.
 """
 from sulgrevad.carrier import MOST_NOTE
+from sulgrevad.client import Client, ClientEvent, ClientEventKind
 from sulgrevad.edits import Edit, Edits, Pieces
 from sulgrevad.host import Host
 from sulgrevad.line import Line, LineDetails, Tick
@@ -83,6 +85,7 @@ from sulgrevad.status import (
     Step,
     StreamFault,
     TerminalRefused,
+    TooMany,
     Unfinished,
     Waiting,
     error_of,
@@ -94,10 +97,10 @@ from sulgrevad.terminal import Terminal
 __version__ = "0.1.0"
 
 __all__ = [
-    "HELLO_BYTES", "MOST_NOTE", "AddRefused", "Change", "CountFull", "Dropped", "Edit", "EditRefused", "Edits", "EventKind",
-    "FileState", "HandleFault", "Hello", "Host", "HostDid", "HostRefused", "Kind", "Line", "LineDetails", "Link", "LinkFault",
-    "MarkRefused", "Missing", "NextFrame", "NoMemory", "NotText", "Note", "NoteCode", "NoteFault", "NoteKind", "Overlay", "Pieces", "Put", "Refusal",
-    "SamError", "ScriptFault", "Splice", "SpliceKind", "Status", "Step", "StreamFault", "Terminal", "TerminalDid", "TerminalRefused",
-    "TerminalState", "Tick", "Unfinished", "Waiting", "What", "error_of", "library_version", "read_hello", "read_note", "replay",
-    "status_text", "write_note", "write_refusal",
+    "HELLO_BYTES", "MOST_NOTE", "AddRefused", "Change", "Client", "ClientEvent", "ClientEventKind", "CountFull", "Dropped", "Edit",
+    "EditRefused", "Edits", "EventKind", "FileState", "HandleFault", "Hello", "Host", "HostDid", "HostRefused", "Kind", "Line",
+    "LineDetails", "Link", "LinkFault", "MarkRefused", "Missing", "NextFrame", "NoMemory", "NotText", "Note", "NoteCode", "NoteFault",
+    "NoteKind", "Overlay", "Pieces", "Put", "Refusal", "SamError", "ScriptFault", "Splice", "SpliceKind", "Status", "Step",
+    "StreamFault", "Terminal", "TerminalDid", "TerminalRefused", "TerminalState", "Tick", "TooMany", "Unfinished", "Waiting", "What",
+    "error_of", "library_version", "read_hello", "read_note", "replay", "status_text", "write_note", "write_refusal",
 ]  # fmt: skip

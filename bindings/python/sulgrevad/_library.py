@@ -96,7 +96,7 @@ class Record(ctypes.Structure):
 
 
 class Handle(ctypes.Structure):
-    """sam_host, sam_term, sam_overlay, sam_link and sam_line; empty if all bytes are zero."""
+    """sam_host, sam_term, sam_overlay, sam_link, sam_line and sam_client; empty if all bytes are zero."""
 
     _fields_ = [("at", c_void_p), ("made", c_uint64)]
 
@@ -166,6 +166,20 @@ SIGNATURES: Dict[str, Tuple[Any, ...]] = {
     "line_put_note": (*_BYTES, c_uint64), "line_ask": (c_uint64,), "line_acknowledge": (), "line_take_out": (c_uint64, *_BUFFER, _SIZE),
     "line_receive": (c_uint64, *_BYTES, c_uint64), "line_take_in": (*_BUFFER, _SIZE), "line_next_note": (*_BUFFER, _SIZE),
     "line_describe": (c_uint64, POINTER(Details)), "line_words": (*_BUFFER, _SIZE),
+    "client_new": (c_char_p, c_bool, c_uint64), "client_free": (), "client_tick": (c_uint64, _U32), "client_due_in": (c_uint64, _U64),
+    "client_connected": (c_uint64, _U64), "client_not_connected": (c_uint64,), "client_broken": (c_uint64, c_uint64),
+    "client_address_changed": (c_uint64,), "client_expect": (c_bool, c_uint64), "client_receive": (c_uint64, *_BYTES, c_uint64),
+    "client_take_out": (c_uint64, *_BUFFER, _SIZE), "client_acknowledge": (), "client_next_event": (c_uint64, _U32, _DID),
+    "client_next_splice": (POINTER(CSplice),), "client_note": (*_BUFFER, _SIZE), "client_put_note": (*_BYTES, c_uint64),
+    "client_replace": (c_uint16, c_uint32, c_uint32, *_BYTES), "client_ask": (POINTER(CEvent), *_BYTES),
+    "client_drop_next": (c_uint16, POINTER(CSplice), *_BUFFER, _SIZE), "client_has_all": (_BOOL,),
+    "client_is_unsaved": (c_uint16, _BOOL), "client_requests": (_SIZE,),
+    "client_describe": (c_uint64, POINTER(Details)), "client_words": (*_BUFFER, _SIZE),
+    "client_state": (POINTER(State),), "client_file": (c_uint16, POINTER(File)), "client_name": (c_uint16, *_BUFFER, _SIZE),
+    "client_current": (_TAG,), "client_pattern": (*_BUFFER, _SIZE), "client_snarfed": _TEXT_FROM, "client_fault_place": (_U64,),
+    "client_waiting": (c_uint16, _U32), "client_next_waiting": (c_uint16, _TAG), "client_len": (c_uint16, _U32),
+    "client_first_gap": (c_uint16, c_uint32, _U32), "client_read": (c_uint16, c_uint32, *_RUNES, _U32),
+    "client_text": (c_uint16, *_TEXT_FROM),
 }  # fmt: skip
 
 # All arguments, and the result, of each call that takes no handle.

@@ -1,4 +1,4 @@
-"""What a link and a line share: bytes and notes that are moved in and out."""
+"""What a link, a line and a client share: bytes and notes that are moved in and out."""
 import ctypes
 from collections import deque
 from ctypes import byref, c_size_t
@@ -26,22 +26,19 @@ def id_of(id: Bytes) -> bytes:
     return name
 
 
-class Carrier(Held):
-    """What moves bytes and notes between a program and its connections. Nothing is lost where an exception breaks in."""
+class Outward(Held):
+    """What hands out bytes for its connections. Nothing is lost where an exception breaks in."""
 
     def __init__(self, *arguments: Any) -> None:
         if not hasattr(self, "_out"):
             # The bytes that were moved out of the library when an exception broke in before they were returned: a buffer, how much of it
             # was returned, and how much it has.
             self._out: Deque[Tuple[Any, int, c_size_t]] = deque()
-            self._in: Deque[Tuple[Any, int, c_size_t]] = deque()
-            self._notes: Deque[Tuple[Any, int, c_size_t]] = deque()
         super().__init__(*arguments)
 
     def free(self) -> None:
         """Frees it, with all the bytes that it keeps. Any later call but this one and `close` raises HandleFault."""
-        for left in (self._out, self._in, self._notes):
-            left.clear()
+        self._out.clear()
         super().free()
 
     def close(self) -> None:
@@ -84,6 +81,22 @@ class Carrier(Held):
         if self._out:
             self._call("take_out", attempt, ctypes.create_string_buffer(1), 0, byref(c_size_t()))  # is it still the newest?
         return self._moved(self._out, room, "take_out", attempt) or b""
+
+
+class Carrier(Outward):
+    """What moves bytes and notes between a program and its connections. Nothing is lost where an exception breaks in."""
+
+    def __init__(self, *arguments: Any) -> None:
+        if not hasattr(self, "_in"):
+            self._in: Deque[Tuple[Any, int, c_size_t]] = deque()
+            self._notes: Deque[Tuple[Any, int, c_size_t]] = deque()
+        super().__init__(*arguments)
+
+    def free(self) -> None:
+        """Frees it, with all the bytes that it keeps. Any later call but this one and `close` raises HandleFault."""
+        self._in.clear()
+        self._notes.clear()
+        super().free()
 
     def take_in(self, most: int = 65_536) -> bytes:
         """Returns the next bytes of the other side's program, at most `most` and of one packet. Call it until it returns b"": then a note

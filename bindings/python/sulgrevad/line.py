@@ -6,7 +6,7 @@ from struct import Struct
 from typing import NamedTuple, Optional
 
 from sulgrevad._library import Details
-from sulgrevad.carrier import Bytes, Carrier, id_of
+from sulgrevad.carrier import Bytes, Carrier, Outward, id_of
 
 MOST_WORDS = 65_536  # bytes before the host's hello
 
@@ -14,7 +14,7 @@ _DETAILS = Struct("7Q2I2?")  # the fields of Details, in their order
 
 
 class Tick(enum.IntEnum):
-    """What a program is to do for its line (enum sam_tick of sulgrevad.h)."""
+    """What a program is to do for its line or its client (enum sam_tick of sulgrevad.h)."""
 
     NOTHING = 0
     CONNECT = 1
@@ -45,33 +45,10 @@ class LineDetails(NamedTuple):
     has_all: bool
 
 
-class Line(Carrier):
-    """The terminal's end of a link, which also decides when a connection is to be made, when the host is to be asked, and when the
-    connection is to be given up. It opens no connection and has no clock: each call takes the time, in milliseconds of any clock that
-    doesn't jump, as of `time.monotonic`. A time below the greatest that was handed in counts as the greatest.
-
-        while (tick := line.tick(now)) != Tick.NOTHING:     CONNECT: open a connection; DROP: close it; ASK: line.ask(now)
-            ..
-        attempt = line.connected(now)                       it is open; or line.not_connected(now)
-        sock.sendall(line.take_out(attempt))                the hello first; again after each put, question and piece
-        line.receive(attempt, data, now)                    all bytes that came, words of a login too
-        while data := line.take_in(): ..                    the program's bytes among them; then next_note
-        wait(line.due_in(now))                              for so long nothing is to be done
-
-    A put, a note and a piece are taken whole or not at all.
-    """
+class Clocked(Outward):
+    """The connections of a line or a client: when they are made, what comes on them, and how they stand."""
 
     DOWN, CONNECTING, OPEN, LATE, LOST = range(5)
-
-    _prefix = "sam_line"
-
-    def __init__(self, id: Bytes, take_over: bool, now: int) -> None:
-        """Makes a line, whose first connection is due at once. The id is the session's name: 16 bytes that the terminal chose at random. It
-        is no secret. With `take_over`, the session is to begin with the texts of another, as long as no host has welcomed this line. Raises
-        ValueError for an id of another length, NoMemory."""
-        super().__init__(id_of(id), bool(take_over), now)
-
-    # ---- Connections
 
     def tick(self, now: int) -> Tick:
         """Returns what the program is to do at this time. What it returns counts as begun: another call at the same time returns something
@@ -110,6 +87,54 @@ class Line(Carrier):
         comes for 15 seconds, the connection is late, so call `ask`, and if none comes for 15 more, it is given up."""
         self._call("expect", bool(expects), now)
 
+    def receive(self, attempt: int, data: Bytes, now: int) -> None:
+        """Takes bytes that came on a connection, from its first one on, in pieces of any length, all or none. Raises, in this order:
+        LinkFault (LINK_NOT_OPEN) if the connection is over or isn't the newest; LINK_TOO_MANY_ANSWERS; before the host's welcome
+        LINK_TOO_MANY_WORDS, LINK_WRONG_HELLO, and the host's reason, if it refuses; then CountFull, LINK_BAD_KIND, LINK_BAD_LENGTH and
+        LINK_ACK_AHEAD. After each of these but the first the connection is over. Raises NoMemory at any place: the connection stays, and
+        the same bytes are to be given again."""
+        data = bytes(memoryview(data))
+        self._call("receive", attempt, data, len(data), now)
+
+    def describe(self, now: int) -> LineDetails:
+        """Returns the state, the counts and the times of the line."""
+        details = Details()
+        self._call("describe", now, byref(details))
+        return LineDetails(*_DETAILS.unpack_from(details))
+
+    @property
+    def words(self) -> bytes:
+        """Returns the words that came on the newest connection before the host's hello, perhaps of a login. They are bytes, and need be no
+        text."""
+        into, count = ctypes.create_string_buffer(MOST_WORDS), c_size_t()
+        self._call("words", into, len(into), byref(count))
+        return into.raw[: count.value]
+
+
+class Line(Carrier, Clocked):
+    """The terminal's end of a link, which also decides when a connection is to be made, when the host is to be asked, and when the
+    connection is to be given up. It opens no connection and has no clock: each call takes the time, in milliseconds of any clock that
+    doesn't jump, as of `time.monotonic`. A time below the greatest that was handed in counts as the greatest.
+
+        while (tick := line.tick(now)) != Tick.NOTHING:     CONNECT: open a connection; DROP: close it; ASK: line.ask(now)
+            ..
+        attempt = line.connected(now)                       it is open; or line.not_connected(now)
+        sock.sendall(line.take_out(attempt))                the hello first; again after each put, question and piece
+        line.receive(attempt, data, now)                    all bytes that came, words of a login too
+        while data := line.take_in(): ..                    the program's bytes among them; then next_note
+        wait(line.due_in(now))                              for so long nothing is to be done
+
+    A put, a note and a piece are taken whole or not at all.
+    """
+
+    _prefix = "sam_line"
+
+    def __init__(self, id: Bytes, take_over: bool, now: int) -> None:
+        """Makes a line, whose first connection is due at once. The id is the session's name: 16 bytes that the terminal chose at random. It
+        is no secret. With `take_over`, the session is to begin with the texts of another, as long as no host has welcomed this line. Raises
+        ValueError for an id of another length, NoMemory."""
+        super().__init__(id_of(id), bool(take_over), now)
+
     # ---- Bytes and notes to send
 
     def put(self, data: Bytes, now: int) -> None:
@@ -128,30 +153,3 @@ class Line(Carrier):
         """Asks the host whether all has come, if something that was put is not acknowledged, or the line is late; but not while such a
         question is under way. So it may be called after each put and each piece. Raises, in this order: CountFull; NoMemory."""
         self._call("ask", now)
-
-    # ---- Bytes in
-
-    def receive(self, attempt: int, data: Bytes, now: int) -> None:
-        """Takes bytes that came on a connection, from its first one on, in pieces of any length, all or none. Raises, in this order:
-        LinkFault (LINK_NOT_OPEN) if the connection is over or isn't the newest; LINK_TOO_MANY_ANSWERS; before the host's welcome
-        LINK_TOO_MANY_WORDS, LINK_WRONG_HELLO, and the host's reason, if it refuses; then CountFull, LINK_BAD_KIND, LINK_BAD_LENGTH and
-        LINK_ACK_AHEAD. After each of these but the first the connection is over. Raises NoMemory at any place: the connection stays, and
-        the same bytes are to be given again."""
-        data = bytes(memoryview(data))
-        self._call("receive", attempt, data, len(data), now)
-
-    # ---- Readers
-
-    def describe(self, now: int) -> LineDetails:
-        """Returns the state, the counts and the times of the line."""
-        details = Details()
-        self._call("describe", now, byref(details))
-        return LineDetails(*_DETAILS.unpack_from(details))
-
-    @property
-    def words(self) -> bytes:
-        """Returns the words that came on the newest connection before the host's hello, perhaps of a login. They are bytes, and need be no
-        text."""
-        into, count = ctypes.create_string_buffer(MOST_WORDS), c_size_t()
-        self._call("words", into, len(into), byref(count))
-        return into.raw[: count.value]

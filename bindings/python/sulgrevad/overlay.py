@@ -5,9 +5,9 @@ from typing import Iterator, List, NamedTuple, Optional
 
 from sulgrevad._library import CEvent, CSplice, Did, Text, bytes_of
 from sulgrevad.results import Change, TerminalDid
-from sulgrevad.sides import NONE, OK, STEPS, index, least
+from sulgrevad.sides import NONE, OK, STEPS, Streams, index, least
 from sulgrevad.status import Status, Step, error_of
-from sulgrevad.terminal import GAP, Screen
+from sulgrevad.terminal import GAP, Refusals, Screen
 
 
 class SpliceKind(enum.IntEnum):
@@ -20,8 +20,8 @@ class SpliceKind(enum.IntEnum):
 
 
 class EventKind(enum.IntEnum):
-    """The events that an overlay takes: those that leave each text but that of the command file (enum sam_event_kind of sulgrevad.h). Each
-    does what the method of a terminal does that has its name; those of _CMD do it at the command file."""
+    """The events that an overlay or a client takes: those that leave each text but that of the command file (enum sam_event_kind of
+    sulgrevad.h). Each does what the method of a terminal does that has its name; those of _CMD do it at the command file."""
 
     SELECT = 1
     DCLICK = 2
@@ -69,8 +69,8 @@ class Splice(NamedTuple):
 
 
 class Dropped(NamedTuple):
-    """Runes that an overlay gives back, because the host left no room for them: `length` of them went of the shown text of the file `tag`
-    at the place, which is 0 if a later edit had taken them out, and `text` is all of them."""
+    """Runes that an overlay or a client gives back, because the host left no room for them: `length` of them went of the shown text of
+    the file `tag` at the place, which is 0 if a later edit had taken them out, and `text` is all of them."""
 
     tag: int
     place: int
@@ -78,11 +78,85 @@ class Dropped(NamedTuple):
     text: str
 
 
+def event_of(kind: EventKind, tag: int, start: int, number: int, version: int) -> CEvent:
+    """Returns the event as the library takes it. Raises ValueError for a number that C's type can't hold."""
+    return CEvent(*(index(c_uint32, word) for word in (kind, start, number)), *(index(c_uint16, half) for half in (tag, version)))
+
+
+def did_of(did: Did) -> TerminalDid:
+    """Returns what a step did."""
+    why = Status(did.why) if did.why else None
+    return TerminalDid(STEPS[did.step], did.kind, did.tag, Change(did.start, did.gone, did.came), did.event, why, did.loads)
+
+
 SPLICE_KINDS = (SpliceKind.CAME, *SpliceKind)  # by their numbers, which begin with 1
 PUTS = tuple(Put)  # by their numbers
 
 
-class Overlay(Screen):
+class Shown(Screen):
+    """The shown texts of an overlay or a client, and how they change."""
+
+    def next_splice(self) -> Optional[Splice]:
+        """Returns the next change of the shown text by the last step; None if none is left."""
+        splice = CSplice()
+        code = self._answer("next_splice", byref(splice))
+        if code == NONE:
+            return None
+        if code != OK:
+            raise error_of(code)
+        return Splice(SPLICE_KINDS[splice.kind], splice.tag, splice.place, splice.count)
+
+    def splices(self) -> Iterator[Splice]:
+        """Yields the changes of the shown text by the last step that were not handed out yet."""
+        while (splice := self.next_splice()) is not None:
+            yield splice
+
+    def drop_next(self, tag: int) -> Optional[Dropped]:
+        """Takes back the next insertion that waits over a file, if an edit could act at once and the file has no room for this one: that is
+        where `put_next` of an overlay raises EditRefused (TOO_LONG). Returns it; None if nothing is to be taken back. Raises, in this
+        order, and all is then as it was: Waiting if splices are left; NoMemory."""
+        room = 4 * self.waiting(tag)
+        into, splice, got = create_string_buffer(room), CSplice(), c_size_t()
+        code = self._answer("drop_next", tag, byref(splice), into, room, byref(got))
+        if code == NONE:
+            return None
+        if code != OK:
+            raise error_of(code)
+        return Dropped(splice.tag, splice.place, splice.count, string_at(into, got.value).decode())
+
+    def waiting(self, tag: int) -> int:
+        """Returns the number of runes that wait over a file, those that a later edit takes out among them. It is 0 if the file is not open,
+        or if only what takes runes out waits."""
+        return self._number("waiting", c_uint32, tag)
+
+    def next_waiting(self, first: int = 0) -> Optional[int]:
+        """Returns the first file from the tag `first` on over which an edit waits, also one that only takes runes out; None if there is
+        none."""
+        return self._number_if_any("next_waiting", c_uint16, first)
+
+    def is_waiting(self, tag: int) -> bool:
+        """Returns whether an edit waits over a file, also one that only takes runes out."""
+        return self.next_waiting(tag) == tag
+
+    def first_gap(self, tag: int, place: int = 0) -> Optional[int]:
+        """Returns the first place of the shown text of a file, at or after `place`, whose rune is not loaded; None if the file is not open,
+        or if all are loaded from there on."""
+        return self._number_if_any("first_gap", c_uint32, tag, place)
+
+    def len(self, tag: int) -> int:
+        """Returns the length of the shown text of an open file in runes, gaps counted. Raises Missing if the file is not open."""
+        return self._number("len", c_uint32, tag)
+
+    def read(self, tag: int, place: int, count: int) -> List[Optional[str]]:
+        """Returns the shown runes of an open file from the place `place` on, at most `count`; None stands for one that is not loaded.
+        Raises Missing if the file is not open, and ValueError if a number is below 0."""
+        room = least(count, max(0, self.len(tag) - max(0, place)))
+        into, got = (c_uint32 * room)(), c_uint32()
+        self._call("read", tag, place, into, room, byref(got))
+        return [None if rune == GAP else chr(rune) for rune in into[: got.value]]
+
+
+class Overlay(Streams, Shown, Refusals):
     """A terminal for an editor that has a text of its own and takes each key at once. What the user does is shown at once, also while the
     file is locked. Until the file is free it waits over the terminal's text, and the host's changes go through it.
 
@@ -117,19 +191,6 @@ class Overlay(Screen):
         CountFull; NoMemory."""
         return PUTS[self._number("put_next", c_uint32, tag)]
 
-    def drop_next(self, tag: int) -> Optional[Dropped]:
-        """Takes back the next insertion that waits over a file, if an edit could act at once and the file has no room for this one: that is
-        where `put_next` raises EditRefused (TOO_LONG). Returns it; None if nothing is to be taken back. Raises, in this order, and the
-        overlay is then as it was: Waiting if splices are left; NoMemory."""
-        room = 4 * self.waiting(tag)
-        into, splice, got = create_string_buffer(room), CSplice(), c_size_t()
-        code = self._answer("drop_next", tag, byref(splice), into, room, byref(got))
-        if code == NONE:
-            return None
-        if code != OK:
-            raise error_of(code)
-        return Dropped(splice.tag, splice.place, splice.count, string_at(into, got.value).decode())
-
     def bring_event(
         self, kind: EventKind, tag: int = 0, start: int = 0, number: int = 0, *, version: int = 0, text: Text = ""
     ) -> None:
@@ -138,7 +199,7 @@ class Overlay(Screen):
         acts on the terminal's text, so put all that waits over its file first. Raises, in this order, and the overlay is then as it was:
         NotText; NoMemory; Missing if no event has this kind; the fault by which the terminal has stopped; Waiting until a step was IDLE or
         LOCKED, and while an edit was put that has not acted; CountFull; NoMemory."""
-        event = CEvent(*map(_word, (kind, start, number)), *map(_half, (tag, version)))
+        event = event_of(kind, tag, start, number, version)
         data = bytes_of(text)
         self._call("bring_event", byref(event), data, len(data))
 
@@ -151,23 +212,7 @@ class Overlay(Screen):
         terminal stops at this step."""
         did = Did()
         self._call("step", byref(did))
-        why = Status(did.why) if did.why else None
-        return TerminalDid(STEPS[did.step], did.kind, did.tag, Change(did.start, did.gone, did.came), did.event, why, did.loads)
-
-    def next_splice(self) -> Optional[Splice]:
-        """Returns the next change of the shown text by the last step; None if none is left."""
-        splice = CSplice()
-        code = self._answer("next_splice", byref(splice))
-        if code == NONE:
-            return None
-        if code != OK:
-            raise error_of(code)
-        return Splice(SPLICE_KINDS[splice.kind], splice.tag, splice.place, splice.count)
-
-    def splices(self) -> Iterator[Splice]:
-        """Yields the changes of the shown text by the last step that were not handed out yet."""
-        while (splice := self.next_splice()) is not None:
-            yield splice
+        return did_of(did)
 
     def go_on(self, *tags: int) -> Iterator[Splice]:
         """Makes all steps that can be made without the host, puts what waits over these files as they are free, and yields each change of
@@ -178,44 +223,3 @@ class Overlay(Screen):
             while self.step().step not in (Step.IDLE, Step.LOCKED):
                 yield from self.splices()
             put = any(self.put_next(tag) == Put.EDIT for tag in tags)
-
-    # ---- Shown texts of open files
-
-    def waiting(self, tag: int) -> int:
-        """Returns the number of runes that wait over a file, those that a later edit takes out among them. It is 0 if the file is not open,
-        or if only what takes runes out waits."""
-        return self._number("waiting", c_uint32, tag)
-
-    def next_waiting(self, first: int = 0) -> Optional[int]:
-        """Returns the first file from the tag `first` on over which an edit waits, also one that only takes runes out; None if there is
-        none."""
-        return self._number_if_any("next_waiting", c_uint16, first)
-
-    def is_waiting(self, tag: int) -> bool:
-        """Returns whether an edit waits over a file, also one that only takes runes out."""
-        return self.next_waiting(tag) == tag
-
-    def first_gap(self, tag: int, place: int = 0) -> Optional[int]:
-        """Returns the first place of the shown text of a file, at or after `place`, whose rune is not loaded; None if the file is not open,
-        or if all are loaded from there on."""
-        return self._number_if_any("first_gap", c_uint32, tag, place)
-
-    def len(self, tag: int) -> int:
-        """Returns the length of the shown text of an open file in runes, gaps counted. Raises Missing if the file is not open."""
-        return self._number("len", c_uint32, tag)
-
-    def read(self, tag: int, place: int, count: int) -> List[Optional[str]]:
-        """Returns the shown runes of an open file from the place `place` on, at most `count`; None stands for one that is not loaded.
-        Raises Missing if the file is not open, and ValueError if a number is below 0."""
-        room = least(count, max(0, self.len(tag) - max(0, place)))
-        into, got = (c_uint32 * room)(), c_uint32()
-        self._call("read", tag, place, into, room, byref(got))
-        return [None if rune == GAP else chr(rune) for rune in into[: got.value]]
-
-
-def _word(number: int) -> int:
-    return index(c_uint32, number)
-
-
-def _half(number: int) -> int:
-    return index(c_uint16, number)

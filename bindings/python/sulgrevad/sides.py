@@ -50,7 +50,7 @@ def least(most: Optional[int], there: int) -> int:
 
 
 class Held:
-    """A handle and its calls, which host, terminal, overlay, link and line share."""
+    """A handle and its calls, which host, terminal, overlay, link, line and client share."""
 
     _prefix = ""
 
@@ -122,19 +122,8 @@ class Held:
             self.free()
 
 
-class Streams(Held):
-    """The texts and the pending bytes that host, terminal and overlay share."""
-
-    def __init__(self) -> None:
-        if not hasattr(self, "_left"):
-            # The bytes that take_out moved out when an exception broke it off: a buffer, how much of it was returned, and how much it has.
-            self._left: Deque[Tuple[Any, int, c_size_t]] = deque()
-        super().__init__()
-
-    def free(self) -> None:
-        """Frees it, with its pending bytes. Any later call but this one raises HandleFault."""
-        self._left.clear()
-        super().free()
+class Texts(Held):
+    """The reading of texts, which host, terminal, overlay and client share."""
 
     def _range(self, name: str, tag: int) -> Tuple[int, int]:
         """Makes a call that hands out two places, and returns them."""
@@ -163,6 +152,27 @@ class Streams(Held):
             if not piece or left == 0:
                 return "".join(pieces)
 
+    @property
+    def fault_place(self) -> Optional[int]:
+        """Returns the number of bytes of the other side's stream before the frame that is wrong, if this side has stopped by StreamFault;
+        None if it goes on, or has stopped because of a refusal."""
+        return self._number_if_any("fault_place", c_uint64)
+
+
+class Streams(Texts):
+    """The pending bytes of host, terminal and overlay."""
+
+    def __init__(self) -> None:
+        if not hasattr(self, "_left"):
+            # The bytes that take_out moved out when an exception broke it off: a buffer, how much of it was returned, and how much it has.
+            self._left: Deque[Tuple[Any, int, c_size_t]] = deque()
+        super().__init__()
+
+    def free(self) -> None:
+        """Frees it, with its pending bytes. Any later call but this one raises HandleFault."""
+        self._left.clear()
+        super().free()
+
     def bring(self, data: Union[bytes, bytearray, memoryview]) -> None:
         """Takes bytes of the other side, in pieces of any length, but goes no further: `step` does the work. Raises, in this order, and the
         bytes are then not taken: the fault by which this side has stopped before; Waiting until a step was IDLE, or at a terminal LOCKED;
@@ -175,12 +185,6 @@ class Streams(Held):
         the fault by which this side has stopped before; Unfinished if some input, or a message that was composed, still waits for memory;
         StreamFault with the code TRUNCATED if the stream ends inside a message or frame."""
         self._call("finish")
-
-    @property
-    def fault_place(self) -> Optional[int]:
-        """Returns the number of bytes of the other side's stream before the frame that is wrong, if this side has stopped by StreamFault;
-        None if it goes on, or has stopped because of a refusal."""
-        return self._number_if_any("fault_place", c_uint64)
 
     @property
     def pending(self) -> int:

@@ -19,6 +19,7 @@ class Status(enum.IntEnum):
     NONE = 7
     WAITING = 8
     NO_ROOM = 9
+    TOO_MANY = 10
     ADD_TOO_LONG = 19
     ADD_NO_TAG = 20
     BAD_KIND = 33
@@ -206,6 +207,10 @@ class Waiting(SamError):
     """Earlier work waits, so make steps, and take the splices, first; the input was not taken (SAM_WAITING)."""
 
 
+class TooMany(SamError):
+    """1,000 requests of a client wait, so go on first; the input was not taken (SAM_TOO_MANY)."""
+
+
 class HandleFault(SamError, ValueError):
     """The host, terminal, overlay, link or line was freed (SAM_NO_HANDLE), or was made twice (SAM_MADE)."""
 
@@ -268,6 +273,7 @@ SINGLE = {
     Status.NOT_TEXT: NotText,
     Status.NONE: Missing,
     Status.WAITING: Waiting,
+    Status.TOO_MANY: TooMany,
 }
 FAMILIES = (
     (range(16, 32), AddRefused),

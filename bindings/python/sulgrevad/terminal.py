@@ -7,7 +7,7 @@ from typing import Iterator, List, Optional, Tuple
 from sulgrevad._library import LIBRARY, Did, File, State, Text, bytes_of
 from sulgrevad.edits import Edit, Edits, read_runes, received
 from sulgrevad.results import Change, FileState, NextFrame, Refusal, TerminalDid, TerminalState
-from sulgrevad.sides import END, MOST_IN_NAME, NONE, OK, STEPS, Side, Streams, least
+from sulgrevad.sides import END, MOST_IN_NAME, NONE, OK, STEPS, Held, Side, Texts, least
 from sulgrevad.status import Status, error_of
 
 MOST_IN_PATTERN = 512  # bytes of the longest pattern
@@ -18,8 +18,8 @@ _FEW_RUNES = c_uint32 * FEW
 _STATE, _FILE = Struct("5Q2N2IH2?"), Struct("5I6?")  # the fields of State and File, in their order
 
 
-class Screen(Streams):
-    """The readers that a terminal and an overlay share."""
+class Refusals(Held):
+    """The refused events of a terminal or an overlay."""
 
     def next_refusal(self) -> Optional[Refusal]:
         """Returns the oldest refused event that was not handed out yet; None if there is none."""
@@ -35,6 +35,10 @@ class Screen(Streams):
         """Yields the refused events that were not handed out yet, oldest first."""
         while (refusal := self.next_refusal()) is not None:
             yield refusal
+
+
+class Screen(Texts):
+    """The readers that a terminal, an overlay and a client share."""
 
     def state(self) -> TerminalState:
         """Returns the state of the terminal by one call: for a screen, which draws it at each key."""
@@ -77,7 +81,7 @@ class Screen(Streams):
         return self._long_text("snarfed", place, runes)
 
 
-class Terminal(Side, Screen):
+class Terminal(Side, Screen, Refusals):
     """The side with the windows. It begins without any file.
 
     An event of the user acts at once if it can. Else it is held until the locks that it waits for are free and the events before it have

@@ -1,5 +1,5 @@
 -- What it rests on that runes are taken back whole.
-use Rattle.std.proofs.Common.{◌≡◌, ◌∙◌, refl, sym, ap, subst, ℕ, ◌*◌, ◌+◌, ◌<◌, ◌≤◌, ◌⊎◌, inl, inr, List, [], ◌∷◌, ◌++◌, length, take, drop, length-take, Bool, true, false, cond, Option, Some, None, option_map, Ok, encode_utf8_all, arith}
+use Rattle.std.proofs.Common.{◌≡◌, ◌∙◌, refl, sym, ap, subst, ℕ, ◌*◌, ◌+◌, ◌<◌, ◌≤◌, ◌⊎◌, inl, inr, List, [], ◌∷◌, ◌++◌, length, take, drop, length-take, Bool, true, false, cond, Option, Some, None, option_map, Result, Ok, Err, encode_utf8_all, arith}
 use Rattle.std.proofs.Math.Nat.{eq-or-lt_of_le}
 use Rattle.std.proofs.Math.Seq.{take-length}
 use Rattle.sam_runes.proofs.Codes.{counted-front}
@@ -7,12 +7,14 @@ use Rattle.sam_runes.specs.declared.edit.Edit.{Edit}
 use Rattle.sam_mesg.proofs.Texts.{length-text}
 use Rattle.sam_pending.specs.Layers.{Layer, DropsNext, waiting_length}
 use Rattle.sam_pending.specs.Runs.{edit_at, first_due, is_due, next_deed, room, wait, waits}
+use Rattle.sam_pending.specs.declared.fault.PendingFault.{PendingFault}
 use Rattle.sam_pending.specs.declared.run.Deed.{Deed}
 use Rattle.sam_pending.specs.declared.run.Run.{Run}
 use Rattle.sam_pending.specs.declared.run.Run.TheVariants.{Held, Typed}
 use Rattle.sam_pending.specs.declared.told.Dropped.{Dropped}
-use Rattle.sam_overlay.specs.Calls.{Drops, PlainOverlay, waiting_at, waiting_in}
+use Rattle.sam_overlay.specs.Calls.{DropsUpTo, PlainOverlay, waiting_at, waiting_in}
 use Rattle.sam_c.specs.Buffers.{Fills}
+use Rattle.sam_c.specs.Overlays.{FitsWhole}
 use Rattle.sam_c.specs.declared.utf8.Filled.{Filled}
 
 -- ## A buffer with room for all runes
@@ -57,22 +59,28 @@ due-waits w (y ∷ xs) n z f = step (is_due w y) f (due-waits w xs (n + room y) 
         subst (λ (u : Run × ℕ). wait u.0 ≤ wait y + waits xs) here (omega arith)
     step false g next = omega (arith, next g)
 
-dropped-waits : (l : Layer) (d : Dropped) → DropsNext None l d → length d.text ≤ waiting_length l
-dropped-waits l d drops = go (first_due (next_deed None l.runs) 0 l.runs) refl drops.next
+dropped-waits : (m : Option ℕ) (l : Layer) (d : Dropped) → DropsNext m l d → length d.text ≤ waiting_length l
+dropped-waits m l d drops = go (first_due (next_deed m l.runs) 0 l.runs) refl drops.next
   where
-    go : (o : Option (Run × ℕ)) → first_due (next_deed None l.runs) 0 l.runs ≡ o
+    go : (o : Option (Run × ℕ)) → first_due (next_deed m l.runs) 0 l.runs ≡ o
         → option_map (λ (e : Edit). e.text) (option_map (λ (z : Run × ℕ). edit_at l.text z.1 z.0) o) ≡ Some d.text
         → length d.text ≤ waiting_length l
     go None is text = absurd cc
     go (Some z) is text =
         let same : (edit_at l.text z.1 z.0).text ≡ d.text = cc in
         subst (λ s. length s ≤ waiting_length l) same
-        (omega (arith, text-waits l.text z.1 z.0, due-waits (next_deed None l.runs) l.runs 0 z is))
+        (omega (arith, text-waits l.text z.1 z.0, due-waits (next_deed m l.runs) l.runs 0 z is))
 
 -- so a buffer has room for it that has four bytes for each rune that waits
-pub back_fits : (o n : PlainOverlay) (f : ℕ) (d : Dropped) → Drops o f (Ok (Some d)) n → length d.text ≤ waiting_at o f
-back_fits o n f d drops =
+back_fits : (m : Option ℕ) (o n : PlainOverlay) (f : ℕ) (d : Dropped) → DropsUpTo m o f (Ok (Some d)) n → length d.text ≤ waiting_at o f
+back_fits m o n f d drops =
     let taken = drops.2.1 in
-    subst (λ k. length d.text ≤ k) (sym (ap waiting_in taken.1)) (dropped-waits taken.0 d taken.2)
+    subst (λ k. length d.text ≤ k) (sym (ap waiting_in taken.1)) (dropped-waits m taken.0 d taken.2)
 
-pub ruleset back_facts = back_fits
+pub back_whole : (m : Option ℕ) (o n : PlainOverlay) (f room : ℕ) (came : Result (Option Dropped) PendingFault) → DropsUpTo m o f came n
+    → 4 * waiting_at o f ≤ room → FitsWhole came room
+back_whole m o n f room (Ok None) drops fits = tt
+back_whole m o n f room (Ok (Some d)) drops fits = omega (arith, back_fits m o n f d drops, fits)
+back_whole m o n f room (Err why) drops fits = tt
+
+pub ruleset back_facts = back_whole

@@ -15,6 +15,9 @@ use Rattle.sam_link.specs.contracts.link.Link.{the_row as Link}
 use Rattle.sam_link.proofs.link.Link.TheLaws.{the_row_laws as link}
 use Rattle.sam_shown.specs.contracts.shown_end.ShownEnd.{the_row as ShownEnd}
 use Rattle.sam_shown.proofs.shown_end.ShownEnd.TheLaws.{the_row_laws as shown_end}
+use Rattle.sam_c.specs.contracts.client_end.ClientEnd.{the_row as ClientEnd}
+use Rattle.sam_c.proofs.client_end.ClientEnd.TheLaws.{the_row_laws as client_end}
+use Rattle.sam_c.specs.contracts.handle.HeldClient as HeldClient
 use Rattle.sam_c.specs.contracts.handle.HeldHost as HeldHost
 use Rattle.sam_c.specs.contracts.handle.HeldLine as HeldLine
 use Rattle.sam_c.specs.contracts.handle.HeldLink as HeldLink
@@ -69,3 +72,12 @@ OverlayParts = plain (λ _. Parts.the_row ShownEnd Heap.the_row ghosts)
 
 abbrev pub HeldOverlays : Slot 0
 HeldOverlays = plain (λ _. HeldOverlay.the_row)
+
+abbrev pub ClientBox : Bx
+ClientBox = boxed ClientEnd client_end
+
+abbrev pub ClientParts : Slot 0
+ClientParts = plain (λ _. Parts.the_row ClientEnd Heap.the_row ghosts)
+
+abbrev pub HeldClients : Slot 0
+HeldClients = plain (λ _. HeldClient.the_row)

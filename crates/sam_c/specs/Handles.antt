@@ -13,6 +13,7 @@ use Rattle.sam_endpoint.specs.contracts.term_endpoint.TermEndpoint.{the_row as T
 use Rattle.sam_line.specs.contracts.line.Line.{the_row as Line}
 use Rattle.sam_link.specs.contracts.link.Link.{the_row as Link}
 use Rattle.sam_shown.specs.contracts.shown_end.ShownEnd.{the_row as ShownEnd}
+use Rattle.sam_c.specs.contracts.client_end.ClientEnd.{the_row as ClientEnd}
 
 -- what a box of this value owns, its token being the right to free the block; nothing where there is no value
 abbrev pub holds : (Ty → Ptr → Fml) → (R : RattleType) → Ptr → Option R.Denot → Fml
@@ -35,6 +36,9 @@ holds_line alloc = holds (ghosts.dealloc_token alloc) Line
 abbrev pub holds_overlay : Global → Ptr → Option ShownEnd.Denot → Fml
 holds_overlay alloc = holds (ghosts.dealloc_token alloc) ShownEnd
 
+abbrev pub holds_client : Global → Ptr → Option ClientEnd.Denot → Fml
+holds_client alloc = holds (ghosts.dealloc_token alloc) ClientEnd
+
 abbrev pub held_host_coded : Coded (Option HostEndpoint.Denot)
 held_host_coded = coded_option HostEndpoint.coded
 
@@ -50,7 +54,10 @@ held_line_coded = coded_option Line.coded
 abbrev pub held_overlay_coded : Coded (Option ShownEnd.Denot)
 held_overlay_coded = coded_option ShownEnd.coded
 
--- "sam host", "sam term", "sam link", "sam line" and "sam over", the first letter in the highest byte
+abbrev pub held_client_coded : Coded (Option ClientEnd.Denot)
+held_client_coded = coded_option ClientEnd.coded
+
+-- "sam host", "sam term", "sam link", "sam line", "sam over" and "sam clie", the first letter in the highest byte
 abbrev pub host_mark : ℕ
 host_mark = 8314046373061161844
 
@@ -65,3 +72,6 @@ line_mark = 8314046373127876197
 
 abbrev pub overlay_mark : ℕ
 overlay_mark = 8314046373179057522
+
+abbrev pub client_mark : ℕ
+client_mark = 8314046372977076581

@@ -18,3 +18,5 @@ pub mod Steps
 pub mod Snapshots
 pub mod OverlayStatus
 pub mod Overlays
+pub mod ClientStatus
+pub mod Clients

@@ -94,10 +94,13 @@ LineNextNote (Some l) before after old status new g =
 -- ## Readers
 
 -- the words that came before the host's hello, as many of their bytes as have room
+abbrev pub CopiesWords : Line → List ℕ → List ℕ → ℕ → ℕ → Type 0
+CopiesWords l before after status new =
+    (front : List ℕ) × (left : List ℕ) × IsFront l.greeting front × (status ≡ ok) × Takes front before after new left
+
 abbrev pub LineWords : Option Line → List ℕ → List ℕ → ℕ → ℕ → ℕ → Type 0
 LineWords None before after old status new = (status ≡ no_handle) × (after ≡ before) × (new ≡ old)
-LineWords (Some l) before after old status new =
-    (front : List ℕ) × (left : List ℕ) × IsFront l.greeting front × (status ≡ ok) × Takes front before after new left
+LineWords (Some l) before after old status new = CopiesWords l before after status new
 
 abbrev pub line_details : ℕ → Line → SamLineDetails
 line_details now l =

@@ -1,5 +1,5 @@
 -- What the calls of an overlay do.
-use Rattle.std.specs.Prelude.{◌≡◌, ◌⊎◌, ◌*◌, ℕ, Bool, true, false, nat_le, List, [], ◌∷◌, ◌++◌, drop, length, if◌then◌else◌, Option, Some, None, Result, Ok, Err}
+use Rattle.std.specs.Prelude.{◌≡◌, ◌⊎◌, ◌*◌, ℕ, Bool, true, false, nat_le, ◌≤◌, List, [], ◌∷◌, ◌++◌, drop, length, if◌then◌else◌, Option, Some, None, IfSome, Result, Ok, Err, IfOk}
 use Rattle.std.specs.Str.{encode_utf8_all, IsUtf8}
 use Rattle.sam_runes.specs.Reading.{AreRunes}
 use Rattle.sam_runes.specs.Texts.{is_empty}
@@ -17,7 +17,7 @@ use Rattle.sam_endpoint.specs.declared.fault.FinishFault.{FinishFault}
 use Rattle.sam_endpoint.specs.declared.fault.TermStop.{TermStop}
 use Rattle.sam_endpoint.specs.declared.step.BringFault.{BringFault}
 use Rattle.sam_endpoint.specs.declared.step.TermStep.{TermStep}
-use Rattle.sam_overlay.specs.Calls.{Asks, Brings, Drops, Puts, gap_from, shown_at, waiting_at}
+use Rattle.sam_overlay.specs.Calls.{Asks, Brings, Drops, PlainOverlay, Puts, gap_from, shown_at, waiting_at}
 use Rattle.sam_overlay.specs.Outcomes.{IsNextWaiting}
 use Rattle.sam_overlay.specs.declared.fault.PutFault.{PutFault}
 use Rattle.sam_overlay.specs.declared.fault.ReplaceFault.{ReplaceFault}
@@ -78,7 +78,7 @@ OverlayNextRefusal (Some e) before status after g = FirstRefused e e.overlay.end
 -- ## Texts that are brought
 
 -- the bytes spell these runes, and with them this is done; or they are not UTF-8, or memory for the runes was refused
-abbrev pub WithText : ShownEnd → List ℕ → (List ℕ → ℕ → ShownEnd → Type 0) → ℕ → ShownEnd → Type 0
+abbrev pub WithText : {E : Type 0} → E → List ℕ → (List ℕ → ℕ → E → Type 0) → ℕ → E → Type 0
 WithText e text Does status g =
     ((runes : List ℕ) × AreRunes runes × (encode_utf8_all runes ≡ text) × Does runes status g)
     ⊎ (((status ≡ not_text) × (IsUtf8 text → ⊥) × (g ≡ e)) ⊎ ((status ≡ no_memory) × IsUtf8 text × (g ≡ e)))
@@ -188,18 +188,20 @@ OverlayNextSplice (Some e) old status new after = FirstSplice e e.splices old st
 -- ## What is shown
 
 -- what is shown of an open file
-abbrev pub text_of : ShownEnd → ℕ → Option PartialText
-text_of e tag = if is_open e.overlay.end.term tag then Some (shown_at e.overlay tag) else None
+abbrev pub text_of : PlainOverlay → ℕ → Option PartialText
+text_of o tag = if is_open o.end.term tag then Some (shown_at o tag) else None
 
 -- the first place from that one on whose rune is not loaded
-abbrev pub gap_of : ShownEnd → ℕ → ℕ → Option ℕ
-gap_of e tag place = if is_open e.overlay.end.term tag then gap_from place (shown_at e.overlay tag) else None
+abbrev pub gap_of : PlainOverlay → ℕ → ℕ → Option ℕ
+gap_of o tag place = if is_open o.end.term tag then gap_from place (shown_at o tag) else None
 
 -- the first file from that tag on over which an edit waits
+abbrev pub NextWaiting : PlainOverlay → ℕ → ℕ → ℕ → ℕ → Type 0
+NextWaiting o from status before after = (found : Option ℕ) × IsNextWaiting o.layers from found × TellsOne found status before after
+
 abbrev pub OverlayNextWaiting : Option ShownEnd → ℕ → ℕ → ℕ → ℕ → Type 0
 OverlayNextWaiting None from status before after = (status ≡ no_handle) × (after ≡ before)
-OverlayNextWaiting (Some e) from status before after =
-    (found : Option ℕ) × IsNextWaiting e.overlay.layers from found × TellsOne found status before after
+OverlayNextWaiting (Some e) from status before after = NextWaiting e.overlay from status before after
 
 -- ## Runes for which the host left no room
 
@@ -221,6 +223,10 @@ abbrev pub HandsWhole : ℕ → Dropped → Handed → Handed → Type 0
 HandsWhole tag d old new =
     (new.splice ≡ gone_splice tag d) × (new.len ≡ length (encode_utf8_all d.text))
     × (new.buffer ≡ encode_utf8_all d.text ++ drop new.len old.buffer)
+
+-- a buffer of so many bytes has room for them
+abbrev pub FitsWhole : Result (Option Dropped) PendingFault → ℕ → Type 0
+FitsWhole came room = IfOk came (λ taken. IfSome taken (λ d. 4 * length d.text ≤ room))
 
 abbrev pub HandsBack : ℕ → Result (Option Dropped) PendingFault → Handed → ℕ → Handed → Type 0
 HandsBack tag (Ok None) old status new = (status ≡ nothing) × (new ≡ old)

@@ -57,6 +57,9 @@ waiting = 8
 abbrev pub no_room : ℕ
 no_room = 9
 
+abbrev pub too_many : ℕ
+too_many = 10
+
 -- why a text is not read
 abbrev pub read_status : ReadFault → ℕ
 read_status reading.NotText = not_text

@@ -1,8 +1,13 @@
-//! The host, the terminal, an overlay, a link, a line and messages for C, and the replay of scripts. Each export does what a call of a
+//! The host, the terminal, an overlay, a client, a link, a line and messages for C, and the replay of scripts. Each export does what a call of a
 //! lower crate does, and states its clauses again over the value that the handle holds, or over the bytes that it is given. What a C
 //! program owes, and what each call does, stands in include/sulgrevad.h.
 #![tactic(auto)]
 
+mod client_calls;
+mod client_end;
+mod client_events;
+mod client_readers;
+mod client_status;
 mod handle;
 mod host_calls;
 mod host_readers;
@@ -33,7 +38,7 @@ mod term_texts;
 mod term_typing;
 mod utf8;
 
-pub use handle::{SamHost, SamLine, SamLink, SamOverlay, SamTerm};
+pub use handle::{SamClient, SamHost, SamLine, SamLink, SamOverlay, SamTerm};
 pub use journal_calls::{SamJournalHead, SamRecord, SamRecordFrame};
 pub use line_readers::SamLineDetails;
 pub use link_calls::{SamLinkHello, SamLinkId};

@@ -58,7 +58,7 @@ pub extern "C" fn sam_line_due_in(
 }
 
 /// Returns how a line stands.
-fn details_of(line: &Line, now: u64) -> SamLineDetails
+pub(crate) fn details_of(line: &Line, now: u64) -> SamLineDetails
     ensures { result ≡ line_details now line.now }
 {
     let link = line.link();
@@ -92,7 +92,7 @@ pub extern "C" fn sam_line_describe(
 }
 
 /// Copies the first of the bytes into the buffer, as many as have room, and returns how many.
-fn fill(bytes: &[u8], into: &mut [u8]) -> usize
+pub(crate) fn fill(bytes: &[u8], into: &mut [u8]) -> usize
     ensures { Takes bytes.now into.old into.new result (drop result bytes.now) }
 {
     let count = bytes.len().min(into.len());

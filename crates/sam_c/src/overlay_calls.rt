@@ -96,7 +96,7 @@ pub extern "C" fn sam_overlay_step(overlay: &mut SamOverlay, did: &mut SamDid, a
 }
 
 /// Returns a splice, as C has it.
-fn told_splice(splice: Splice) -> SamSplice
+pub(crate) fn told_splice(splice: Splice) -> SamSplice
     ensures { result ≡ told_splice splice }
 {
     SamSplice {

@@ -3,14 +3,14 @@
 ghost use Rattle.std.specs.Prelude.{◌≡◌, ◌≤◌, ◌*◌, ◌++◌, drop, length};
 ghost use Rattle.std.specs.Str.{encode_utf8_all};
 ghost use Rattle.sam_overlay.specs.Calls.{waiting_at};
-ghost use Rattle.sam_c.specs.Overlays.{OverlayDropped, TakesBack, gone_splice, handed};
+ghost use Rattle.sam_c.specs.Overlays.{FitsWhole, HandsBack, OverlayDropped, TakesBack, gone_splice, handed};
 
 use crate::handle::{SamOverlay, with_end};
 use crate::overlay_calls::SamSplice;
 use crate::overlay_status::splice_number;
 use crate::status::{NO_HANDLE, NO_MEMORY, NO_ROOM, NONE, OK, WAITING};
 use crate::utf8::fill_utf8;
-use sam_pending::Dropped;
+use sam_pending::{Dropped, PendingFault};
 use sam_shown::{ShownEnd, SpliceKind};
 use std::alloc::Global;
 
@@ -35,6 +35,28 @@ fn gone_splice(tag: u16, dropped: &Dropped) -> SamSplice
     }
 }
 
+/// Hands out runes that were taken back, and returns what came of it: `NONE` if there are none, `NO_MEMORY` if memory was refused.
+pub(crate) fn hand_back(
+    tag: u16,
+    came: Result<Option<Dropped>, PendingFault>,
+    splice: &mut SamSplice,
+    into: &mut [u8],
+    len: &mut usize,
+) -> u32
+    requires { FitsWhole came (length into.old) }
+    ensures { HandsBack tag came (handed splice.old into.old len.old) result (handed splice.new into.new len.new) }
+{
+    match came {
+        Ok(Some(dropped)) => {
+            *splice = gone_splice(tag, &dropped);
+            *len = put_whole(dropped.text.as_slice(), into);
+            OK
+        }
+        Ok(None) => NONE,
+        Err(_) => NO_MEMORY,
+    }
+}
+
 /// Takes back the next runes that wait over a file, if the host left no room for them, and hands them out.
 #[tactic(auto, using(crate::proofs::DropLaws::back_facts))]
 fn take_back(
@@ -47,15 +69,8 @@ fn take_back(
     requires { 4 * waiting_at end.old.overlay tag ≤ length into.old }
     ensures { TakesBack end.old tag (handed splice.old into.old len.old) result (handed splice.new into.new len.new) end.new }
 {
-    match end.overlay.drop_next(tag) {
-        Ok(Some(dropped)) => {
-            *splice = gone_splice(tag, &dropped);
-            *len = put_whole(dropped.text.as_slice(), into);
-            OK
-        }
-        Ok(None) => NONE,
-        Err(_) => NO_MEMORY,
-    }
+    let came = end.overlay.drop_next(tag);
+    hand_back(tag, came, splice, into, len)
 }
 
 /// Takes back the next runes that wait over a file, where `sam_overlay_put_next` refuses them as too long, and hands them out in UTF-8 with

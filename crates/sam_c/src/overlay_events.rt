@@ -30,7 +30,7 @@ pub struct SamEvent {
 
 /// Returns the event; `None` if no event has this number.
 #[tactic(auto, using(crate::proofs::OverlayLaws::no_event))]
-fn event_of(event: &SamEvent, text: Runes) -> Option<UserEvent>
+pub(crate) fn event_of(event: &SamEvent, text: Runes) -> Option<UserEvent>
     ensures named { result ≡ event_of event.now text }
     ensures passes { IfSome result (λ x. IsTrue (is_request x)) }
 {

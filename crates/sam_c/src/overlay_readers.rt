@@ -6,7 +6,7 @@ ghost use Rattle.std.specs.Prelude.{◌≡◌, Some, drop, length, option_map};
 ghost use Rattle.sam_endpoint.specs.TermEndpoints.{fault_place};
 ghost use Rattle.sam_overlay.specs.Calls.{shown_at, waiting_at};
 ghost use Rattle.sam_c.specs.Buffers.{countable};
-ghost use Rattle.sam_c.specs.Calls.{Reports, ReportsCells, ReportsName, ReportsSome, ReportsText, written};
+ghost use Rattle.sam_c.specs.Calls.{Reports, ReportsCells, ReportsName, ReportsSome, ReportsText, Writes, WritesCells, WritesName, written};
 ghost use Rattle.sam_c.specs.Measures.{front_runes};
 ghost use Rattle.sam_c.specs.Overlays.{OverlayNextWaiting, gap_of, text_of};
 ghost use Rattle.sam_c.specs.Snapshots.{file_state, term_state};
@@ -20,7 +20,56 @@ use crate::status::{NO_HANDLE, NONE, OK};
 use crate::telling::tell_some;
 use crate::term_readers::known_file;
 use crate::utf8::{countable, runes_from, tell_name, tell_text};
+use sam_endpoint::TermEndpoint;
+use sam_overlay::Overlay;
 use std::alloc::Global;
+
+/// Puts the name of a file that a terminal knows into the buffer. `NONE` if it knows no file of this tag.
+pub(crate) fn tell_file_name(end: &TermEndpoint, tag: u16, into: &mut [u8], len: &mut usize) -> u32
+    ensures { WritesName (option_map (λ f. f.name) (known_of end.now tag)) result into.old into.new len.old len.new }
+{
+    match known_file(end, tag) {
+        Some(file) => tell_name(file.name.as_slice(), into, len),
+        None => NONE,
+    }
+}
+
+/// Puts what is shown of an open file from a place on, up to the first gap, into the buffer. `NONE` if it is not open.
+pub(crate) fn tell_shown(
+    overlay: &Overlay,
+    tag: u16,
+    place: u32,
+    into: &mut [u8],
+    bytes: &mut usize,
+    runes: &mut u32,
+) -> u32
+    ensures { Writes (option_map (λ text. front_runes (drop place text)) (text_of overlay.now tag)) result
+        (written into.old bytes.old runes.old) (written into.new bytes.new runes.new) }
+{
+    match Members::shown(overlay, tag) {
+        Some(members) => tell_front(members, place, into, bytes, runes),
+        None => NONE,
+    }
+}
+
+/// Puts what is shown of an open file from a place on into the buffer as numbers. `NONE` if it is not open.
+pub(crate) fn read_shown(
+    overlay: &Overlay,
+    tag: u16,
+    place: u32,
+    into: &mut [u32],
+    count: &mut u32,
+) -> u32
+    ensures { WritesCells (text_of overlay.now tag) place result into.old into.new count.old count.new }
+{
+    match Members::shown(overlay, tag) {
+        Some(members) => {
+            *count = read_members(members, place, into);
+            OK
+        }
+        None => NONE,
+    }
+}
 
 /// Hands out what the terminal holds, in one call.
 #[unsafe(no_mangle)]
@@ -63,12 +112,7 @@ pub extern "C" fn sam_overlay_name(
         (λ e. option_map (λ f. f.name) (known_of e.overlay.end tag)) }
     ensures kept { overlay.new.held.end ≡ overlay.old.held.end }
 {
-    with_end!(overlay alloc end {
-        match known_file(end.overlay.end(), tag) {
-            Some(file) => tell_name(file.name.as_slice(), into, len),
-            None => NONE,
-        }
-    })
+    with_end!(overlay alloc end { tell_file_name(end.overlay.end(), tag, into, len) })
 }
 
 /// Hands out the tag of the file that the host named last in its answer to a change of the work file or to a new file. `SAM_NONE` if it
@@ -170,7 +214,7 @@ pub extern "C" fn sam_overlay_len(
     runes: &mut u32,
     alloc: Global,
 ) -> u32
-    ensures told { ReportsSome overlay.old.held.end result runes.old runes.new (λ e. option_map length (text_of e tag)) }
+    ensures told { ReportsSome overlay.old.held.end result runes.old runes.new (λ e. option_map length (text_of e.overlay tag)) }
     ensures kept { overlay.new.held.end ≡ overlay.old.held.end }
 {
     with_end!(overlay alloc end {
@@ -191,15 +235,10 @@ pub extern "C" fn sam_overlay_text(
     alloc: Global,
 ) -> u32
     ensures told { ReportsText overlay.old.held.end result (written into.old bytes.old runes.old) (written into.new bytes.new runes.new)
-        (λ e. option_map (λ text. front_runes (drop place text)) (text_of e tag)) }
+        (λ e. option_map (λ text. front_runes (drop place text)) (text_of e.overlay tag)) }
     ensures kept { overlay.new.held.end ≡ overlay.old.held.end }
 {
-    with_end!(overlay alloc end {
-        match Members::shown(&end.overlay, tag) {
-            Some(members) => tell_front(members, place, into, bytes, runes),
-            None => NONE,
-        }
-    })
+    with_end!(overlay alloc end { tell_shown(&end.overlay, tag, place, into, bytes, runes) })
 }
 
 /// Puts what is shown of an open file from a place on into the buffer as numbers, as many runes and gaps as there are and have room, with
@@ -213,18 +252,10 @@ pub extern "C" fn sam_overlay_read(
     count: &mut u32,
     alloc: Global,
 ) -> u32
-    ensures told { ReportsCells overlay.old.held.end result into.old into.new count.old count.new place (λ e. text_of e tag) }
+    ensures told { ReportsCells overlay.old.held.end result into.old into.new count.old count.new place (λ e. text_of e.overlay tag) }
     ensures kept { overlay.new.held.end ≡ overlay.old.held.end }
 {
-    with_end!(overlay alloc end {
-        match Members::shown(&end.overlay, tag) {
-            Some(members) => {
-                *count = read_members(members, place, into);
-                OK
-            }
-            None => NONE,
-        }
-    })
+    with_end!(overlay alloc end { read_shown(&end.overlay, tag, place, into, count) })
 }
 
 /// Hands out the first place of what is shown of an open file, at or after `place`, whose rune is not loaded. `SAM_NONE` if the file is not
@@ -237,7 +268,7 @@ pub extern "C" fn sam_overlay_first_gap(
     gap: &mut u32,
     alloc: Global,
 ) -> u32
-    ensures told { ReportsSome overlay.old.held.end result gap.old gap.new (λ e. gap_of e tag place) }
+    ensures told { ReportsSome overlay.old.held.end result gap.old gap.new (λ e. gap_of e.overlay tag place) }
     ensures kept { overlay.new.held.end ≡ overlay.old.held.end }
 {
     with_end!(overlay alloc end {

@@ -20,7 +20,7 @@ pub(crate) const NO_MEMORY: u32 = 1;
 
 /// Memory was refused, but what the call brought was taken: the next call that feeds, brings an event or lets the handle go on does what
 /// waits.
-const UNFINISHED: u32 = 2;
+pub(crate) const UNFINISHED: u32 = 2;
 
 /// The stream would have 2^64 bytes, or there would be 2^64 events. What the call brought was not taken.
 pub(crate) const COUNT_FULL: u32 = 3;
@@ -42,6 +42,9 @@ pub(crate) const WAITING: u32 = 8;
 
 /// The buffer has less room than what is handed out may need.
 pub(crate) const NO_ROOM: u32 = 9;
+
+/// As many requests wait as may, and this one was not taken.
+pub(crate) const TOO_MANY: u32 = 10;
 
 /// Added to the number, from 1, of why a file is not added; so too in the families below. Bytes that are no text, a file that isn't there to
 /// be marked, and out of memory for a file, a mark or a script are `NOT_TEXT`, `NONE` and `NO_MEMORY` in place of that.

@@ -14,7 +14,7 @@ use sam_endpoint::{HostStep, TermStep, name_message};
 use std::alloc::Global;
 
 /// A step did nothing: nothing waits, and a terminal holds no event.
-const IDLE: u32 = 0;
+pub(crate) const IDLE: u32 = 0;
 
 /// A step did nothing: a lock holds a terminal's oldest event back.
 const LOCKED: u32 = 1;
@@ -67,7 +67,7 @@ pub struct SamDid {
 }
 
 /// Returns what says of a step no more than this number.
-fn did_nothing(step: u32) -> SamDid
+pub(crate) fn did_nothing(step: u32) -> SamDid
     ensures { result ≡ did_nothing step }
 {
     SamDid {

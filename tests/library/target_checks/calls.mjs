@@ -97,9 +97,9 @@ function note(told) {
 // ---- The module's side
 
 const SPACE = library.malloc(BigInt(SPACE_SIZE));
-const HANDLES_SIZE = 160;
+const HANDLES_SIZE = 192;
 const HANDLES = library.malloc(BigInt(HANDLES_SIZE));
-const HANDLE_OF = { host: 0, term: 32, link: 64, line: 96, overlay: 128 }; // where the two handles of a kind stand
+const HANDLE_OF = { host: 0, term: 32, link: 64, line: 96, overlay: 128, client: 160 }; // where the two handles of a kind stand
 // That are compared: of a struct all but what fills it up.
 const OUT_BYTES = {
   ...{ did: 39, state: 68, file: 25, note: 64, record: 32, frame: 28, details: 66 },
@@ -288,7 +288,7 @@ const RARE = new Set([
   ...["sam_term_exit", "sam_term_close", "sam_replay"],
 ]);
 const BAD_STREAMS = new Set(["sam_host_feed", "sam_term_feed"]);
-const ELSEWHERE = /^sam_(overlay|link|line|note)_/;
+const ELSEWHERE = /^sam_(overlay|client|link|line|note)_/;
 const COMMON = CALLS.map(([name]) => name).filter((name) => !RARE.has(name) && !BAD_STREAMS.has(name) && !ELSEWHERE.test(name));
 const LINK_CALLS = CALLS.map(([name]) => name).filter((name) => !RARE.has(name) && name.startsWith("sam_link_"));
 const LINE_CALLS = CALLS.map(([name]) => name).filter((name) => !RARE.has(name) && name.startsWith("sam_line_"));

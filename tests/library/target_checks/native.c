@@ -27,6 +27,7 @@ union out {
     sam_line_details details;
     sam_splice splice;
     sam_put put;
+    sam_client_event told;
     uint8_t u8;
     uint16_t u16;
     uint32_t u32;
@@ -42,6 +43,7 @@ static sam_term terms[2];
 static sam_overlay overlays[2];
 static sam_link links[2]; /* both in use: an end of the terminal's side, and one of the host's */
 static sam_line lines[2]; /* both in use */
+static sam_client clients[2];
 static uint64_t asked, refused_from, refused_to;
 
 void *__real_malloc(size_t size);
@@ -133,6 +135,12 @@ static sam_line *line(void)
 {
     int which = getchar();
     return which == 2 ? NULL : &lines[which];
+}
+
+static sam_client *client(void)
+{
+    int which = getchar();
+    return which == 2 ? NULL : &clients[which];
 }
 
 static struct lent lent(void)

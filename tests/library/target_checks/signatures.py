@@ -6,7 +6,7 @@ DECLARATION = re.compile(r"^(?:SAM_MUST_USE )?sam_status (sam_\w+)\(([^)]*)\);",
 FIELDS = {
     "uint8_t": "u8", "uint16_t": "u16", "uint32_t": "u32", "uint64_t": "u64", "size_t": "size", "bool": "truth", "sam_status": "status",
     "sam_did": "did", "sam_state": "state", "sam_file": "file", "sam_note": "note", "sam_record": "record", "sam_record_frame": "frame",
-    "sam_line_details": "details", "sam_splice": "splice", "sam_put": "put",
+    "sam_line_details": "details", "sam_splice": "splice", "sam_put": "put", "sam_client_event": "told",
 }
 NUMBERS = {"uint16_t": "u16", "uint32_t": "u32", "uint64_t": "u64", "size_t": "size", "bool": "truth"}
 LONG = ("u64", "size")  # those of 64 bits
@@ -19,7 +19,7 @@ OUT = {
 OUT_ELSE = 8
 ROOMS = {"uint8_t *": 1, "uint32_t *": 4, "sam_place *": 16}  # bytes of each thing that a room is for
 ROOM_KINDS = tuple(f"room{size}" for size in ROOMS.values())
-HANDLES = {"sam_host": "host", "sam_term": "term", "sam_overlay": "overlay", "sam_link": "link", "sam_line": "line"}
+HANDLES = {"sam_host": "host", "sam_term": "term", "sam_overlay": "overlay", "sam_link": "link", "sam_line": "line", "sam_client": "client"}
 STRUCTS = {"const sam_note *": "lent64", "const sam_event *": "lent16"}  # that are lent, and whose length isn't told beside them
 
 

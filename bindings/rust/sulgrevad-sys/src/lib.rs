@@ -17,6 +17,7 @@ pub const SAM_NOT_TEXT: sam_status = 6;
 pub const SAM_NONE: sam_status = 7;
 pub const SAM_WAITING: sam_status = 8;
 pub const SAM_NO_ROOM: sam_status = 9;
+pub const SAM_TOO_MANY: sam_status = 10;
 pub const SAM_ADD_TOO_LONG: sam_status = 19;
 pub const SAM_ADD_NO_TAG: sam_status = 20;
 pub const SAM_BAD_KIND: sam_status = 33;
@@ -283,6 +284,15 @@ pub const SAM_PUT_NOTHING: sam_put = 0;
 pub const SAM_PUT_NOT_FREE: sam_put = 1;
 pub const SAM_PUT_EDIT: sam_put = 2;
 
+/// What a client tells as it goes on: enum sam_client_event.
+pub type sam_client_event = u32;
+
+pub const SAM_CLIENT_IDLE: sam_client_event = 0;
+pub const SAM_CLIENT_BUSY: sam_client_event = 1;
+pub const SAM_CLIENT_STEPPED: sam_client_event = 2;
+pub const SAM_CLIENT_REFUSED: sam_client_event = 3;
+pub const SAM_CLIENT_NOTE: sam_client_event = 4;
+
 /// The result of a step.
 #[derive(Clone, Copy, Debug, Default, PartialEq, Eq)]
 #[repr(C)]
@@ -452,6 +462,14 @@ pub struct sam_line {
     pub made: u64,
 }
 
+/// The handle of a client. It is empty if all its bytes are zero.
+#[derive(Debug)]
+#[repr(C)]
+pub struct sam_client {
+    pub at: *mut c_void,
+    pub made: u64,
+}
+
 impl sam_host {
     /// An empty handle: SAM_HOST_INIT.
     pub const INIT: sam_host = sam_host {
@@ -487,6 +505,14 @@ impl sam_link {
 impl sam_line {
     /// An empty handle: SAM_LINE_INIT.
     pub const INIT: sam_line = sam_line {
+        at: std::ptr::null_mut(),
+        made: 0,
+    };
+}
+
+impl sam_client {
+    /// An empty handle: SAM_CLIENT_INIT.
+    pub const INIT: sam_client = sam_client {
         at: std::ptr::null_mut(),
         made: 0,
     };
@@ -1149,6 +1175,155 @@ extern "C" {
     /// Copies the words that came on the newest connection before the host's hello, perhaps of a login, as many bytes as fit, and hands out
     /// their number. They are bytes, and need be no text. A room of 65,536 bytes is always enough while a connection stands.
     pub fn sam_line_words(line: *mut sam_line, into: *mut u8, room: usize, len: *mut usize) -> sam_status;
+
+    /// Makes a client that knows no file, and whose first connection is due at once. The id is the session's name: 16 bytes that the
+    /// terminal chose at random. It is no secret. With `take_over`, the session is to begin with the texts of another, as long as no host
+    /// has welcomed this client. Then ask for SAM_EVENT_OFFER_VERSION, which names the host's files. Refused, in this order: SAM_NO_HANDLE
+    /// if the handle is NULL; SAM_MADE if it is made already; SAM_NO_MEMORY. The handle is then as it was.
+    pub fn sam_client_new(client: *mut sam_client, id: *const u8, take_over: bool, now: u64) -> sam_status;
+    /// Frees a client, with what waits and with all the bytes that it keeps, and leaves the handle empty. Refused: SAM_NO_HANDLE if the
+    /// handle is NULL or empty.
+    pub fn sam_client_free(client: *mut sam_client) -> sam_status;
+    /// Hands out what the program is to do at this time (enum sam_tick). What it hands out counts as begun: another call at the same time
+    /// hands out something else, so call it until it hands out SAM_TICK_NOTHING. At SAM_TICK_ASK go on (sam_client_next_event): that asks
+    /// the host.
+    pub fn sam_client_tick(client: *mut sam_client, now: u64, tick: *mut u32) -> sam_status;
+    /// Hands out the number of milliseconds until sam_client_tick has something to say, if no other call comes before. Returns SAM_NONE if
+    /// it never has.
+    pub fn sam_client_due_in(client: *mut sam_client, now: u64, left: *mut u64) -> sam_status;
+    /// Takes a connection that the program has opened: the connection before is over. Hands out its number, counted from 1, which names it
+    /// in the calls below. Send the bytes of sam_client_take_out: its hello. Refused: SAM_COUNT_FULL after 2^64-1 connections.
+    pub fn sam_client_connected(client: *mut sam_client, now: u64, attempt: *mut u64) -> sam_status;
+    /// Gives up the connection for which SAM_TICK_CONNECT asked, because it can't be made: another is tried after a pause. At any other
+    /// time it changes nothing.
+    pub fn sam_client_not_connected(client: *mut sam_client, now: u64) -> sam_status;
+    /// Ends a connection, because it broke or because the program gives it up: another is tried after a pause, as by sam_line_broken.
+    /// Nothing changes if it isn't the newest, or is over already.
+    pub fn sam_client_broken(client: *mut sam_client, attempt: u64, now: u64) -> sam_status;
+    /// Doubts an open connection, because an address of the machine came or went, as sam_line_address_changed does. Then go on: the host is
+    /// asked.
+    pub fn sam_client_address_changed(client: *mut sam_client, now: u64) -> sam_status;
+    /// Notes whether the program waits for an answer of the host's program, as to a note of its own: a host that doesn't answer is found
+    /// out then, as by sam_line_expect.
+    pub fn sam_client_expect(client: *mut sam_client, expects: bool, now: u64) -> sam_status;
+    /// Takes bytes that came on a connection, from its first one on, in pieces of any length, all or none. Then go on. Its refusals are
+    /// those of sam_line_receive, in its order.
+    pub fn sam_client_receive(client: *mut sam_client, attempt: u64, bytes: *const u8, len: usize, now: u64) -> sam_status;
+    /// Moves the next bytes for a connection into the buffer, as many as there are and fit, and hands out their number: first the hello,
+    /// and then the stream from the place where this connection goes on. Go on before, so that all is there. Refused: SAM_LINK_NOT_OPEN if
+    /// the connection is over or isn't the newest.
+    pub fn sam_client_take_out(client: *mut sam_client, attempt: u64, into: *mut u8, room: usize, count: *mut usize) -> sam_status;
+    /// Acknowledges all bytes that have come. The client does so by itself when it is asked, and after each 16,384 bytes. Refused, in this
+    /// order: SAM_COUNT_FULL; SAM_NO_MEMORY.
+    pub fn sam_client_acknowledge(client: *mut sam_client) -> sam_status;
+    /// Goes on until there is something to tell, and hands out what (enum sam_client_event). Bytes of the host are received, requests and
+    /// edits that wait act once they can, and all that is composed goes into the line. Call it after each call that brought something,
+    /// until it hands out SAM_CLIENT_IDLE, and take all splices before each call. `did` is as sam_overlay_step hands it out at
+    /// SAM_CLIENT_STEPPED, and has `event` and `why` alone at SAM_CLIENT_REFUSED: which event it was, counted from 1 over all events that
+    /// acted or were refused, edits that were put among them, and SAM_REFUSAL... Else its fields are 0. Refused, in this order, and nothing
+    /// is handed out then: SAM_WAITING if splices are left, and all is as it was. Else some of what waited may be done, and nothing is
+    /// lost: why the terminal has stopped, at this call or before, SAM_STREAM.. or SAM_TERM_REFUSED..; SAM_COUNT_FULL; SAM_UNFINISHED if
+    /// memory is short: call it again later.
+    pub fn sam_client_next_event(client: *mut sam_client, now: u64, kind: *mut sam_client_event, did: *mut sam_did) -> sam_status;
+    /// Hands out the next change of the shown text by the last step. Returns SAM_NONE if none is left.
+    pub fn sam_client_next_splice(client: *mut sam_client, splice: *mut sam_splice) -> sam_status;
+    /// Copies the note that was told last (SAM_CLIENT_NOTE), and hands out its length in bytes, which may be 0. It stays until the next one
+    /// is told. Before the first it has 0 bytes. Refused: SAM_NO_ROOM if the buffer has less room than the note; a room of 4,096 bytes is
+    /// always enough.
+    pub fn sam_client_note(client: *mut sam_client, into: *mut u8, room: usize, len: *mut usize) -> sam_status;
+    /// Puts a note for the host's program, behind all that was composed. So it comes out behind the edits and events that have acted, and
+    /// before those that wait. Refused, in this order, and the note is not put then: SAM_LINK_TOO_LONG for more than 4,096 bytes;
+    /// SAM_COUNT_FULL; SAM_NO_MEMORY.
+    pub fn sam_client_put_note(client: *mut sam_client, bytes: *const u8, len: usize, now: u64) -> sam_status;
+    /// Replaces the shown runes of a file from the place `start` to the place `end` by a text of any length, all or nothing. The new runes
+    /// stand behind what is shown before `start`. They are shown at once, whatever is locked, and go to the host as the client goes on; no
+    /// request that was asked for before finds them. Its refusals are those of sam_overlay_replace, in its order; but before its
+    /// SAM_REFUSAL_EXITED comes that if a request waits that ends the session, and then SAM_REFUSAL_NOT_OPEN if one waits that closes the
+    /// file.
+    pub fn sam_client_replace(client: *mut sam_client, tag: u16, start: u32, end: u32, text: *const u8, len: usize) -> sam_status;
+    /// Asks for what is no edit: an event of an overlay (enum sam_event_kind), with its text if it brings one. It stands in one order with
+    /// the edits: it acts as the client goes on, once all edits before it are put, and finds the text that is shown now, with the host's
+    /// changes since. A place that it names is one of that text, and doesn't move with them. Requests act in the order in which they were
+    /// asked for. Refused, in this order, and the client is then as it was: SAM_NOT_TEXT if the text is not UTF-8; SAM_NO_MEMORY if there
+    /// is no memory for its runes; SAM_NONE if no event has this kind; SAM_WAITING while an edit was put that has not acted: go on first;
+    /// SAM_TOO_MANY if 1,000 requests wait; SAM_COUNT_FULL if 2^32-1 were taken while edits or requests waited; SAM_NO_MEMORY.
+    pub fn sam_client_ask(client: *mut sam_client, event: *const sam_event, text: *const u8, len: usize) -> sam_status;
+    /// Takes back the next insertion that waits over a file, if an edit could act at once and the file has no room for this one, because
+    /// the host put more in meanwhile. Ask for it where the client is idle and edits wait over a free file. Copies its runes in UTF-8, all
+    /// of them, and hands out the number of bytes, and the splice by which they went of the shown text, as sam_overlay_drop_next does, with
+    /// its refusals.
+    pub fn sam_client_drop_next(
+        client: *mut sam_client,
+        tag: u16,
+        splice: *mut sam_splice,
+        into: *mut u8,
+        room: usize,
+        len: *mut usize,
+    ) -> sam_status;
+    /// Hands out whether the host has all that the user did, and all notes: no edit and no request waits, no event is held, all is sent,
+    /// and the host's end of the link has acknowledged all.
+    pub fn sam_client_has_all(client: *mut sam_client, has: *mut bool) -> sam_status;
+    /// Hands out whether the shown text of a file may differ from the text that was written last: an edit waits over it, or
+    /// sam_term_is_changed says so. False for a tag without a file, and for tag 0.
+    pub fn sam_client_is_unsaved(client: *mut sam_client, tag: u16, unsaved: *mut bool) -> sam_status;
+    /// Hands out the number of requests that wait for edits or other requests before them, or for a lock of the command line; not one that
+    /// the terminal has and that has not acted.
+    pub fn sam_client_requests(client: *mut sam_client, count: *mut usize) -> sam_status;
+    /// Hands out the state, the counts and the times of the line to the host, in one call, as sam_line_describe does. Its has_all speaks of
+    /// the line alone.
+    pub fn sam_client_describe(client: *mut sam_client, now: u64, details: *mut sam_line_details) -> sam_status;
+    /// Copies the words that came on the newest connection before the host's hello, as sam_line_words does.
+    pub fn sam_client_words(client: *mut sam_client, into: *mut u8, room: usize, len: *mut usize) -> sam_status;
+    /// Hands out the fields of sam_state at once, each as the reader sam_term_.. of its name does.
+    pub fn sam_client_state(client: *mut sam_client, state: *mut sam_state) -> sam_status;
+    /// Hands out the answers of several readers of one tag at once, as sam_overlay_file does.
+    pub fn sam_client_file(client: *mut sam_client, tag: u16, file: *mut sam_file) -> sam_status;
+    /// Copies the name of a known file in UTF-8, as many whole runes as fit, and hands out the number of bytes. A room of 256 bytes is
+    /// always enough. Returns SAM_NONE if the terminal knows no file of this tag.
+    pub fn sam_client_name(client: *mut sam_client, tag: u16, into: *mut u8, room: usize, len: *mut usize) -> sam_status;
+    /// Hands out the file that the host's answer to SAM_EVENT_WORK or SAM_EVENT_NEW_FILE named last. It may be closed since. Returns
+    /// SAM_NONE if the host has named none yet.
+    pub fn sam_client_current(client: *mut sam_client, tag: *mut u16) -> sam_status;
+    /// Copies the pattern that the host reported last, in UTF-8, as many whole runes as fit, and hands out the number of bytes. A room of
+    /// 512 bytes is always enough.
+    pub fn sam_client_pattern(client: *mut sam_client, into: *mut u8, room: usize, len: *mut usize) -> sam_status;
+    /// Copies the snarfed text that the host sent last (SAM_EVENT_GET_SNARF), from the place `place` on, in UTF-8, as many whole runes as
+    /// fit. Hands out the number of bytes and the number of runes.
+    pub fn sam_client_snarfed(
+        client: *mut sam_client,
+        place: u32,
+        into: *mut u8,
+        room: usize,
+        bytes: *mut usize,
+        runes: *mut u32,
+    ) -> sam_status;
+    /// Hands out the number of bytes of the host's stream before the frame that is wrong, as sam_term_fault_place does.
+    pub fn sam_client_fault_place(client: *mut sam_client, place: *mut u64) -> sam_status;
+    /// Hands out the number of runes that wait over a file, as sam_overlay_waiting does.
+    pub fn sam_client_waiting(client: *mut sam_client, tag: u16, runes: *mut u32) -> sam_status;
+    /// Hands out the first file from the tag `from` on over which an edit waits, as sam_overlay_next_waiting does. Returns SAM_NONE if
+    /// there is none.
+    pub fn sam_client_next_waiting(client: *mut sam_client, from: u16, tag: *mut u16) -> sam_status;
+    /// Hands out the length of the shown text of an open file in runes, gaps counted. Returns SAM_NONE if the file is not open.
+    pub fn sam_client_len(client: *mut sam_client, tag: u16, runes: *mut u32) -> sam_status;
+    /// Hands out the first place of the shown text of an open file, at or after `place`, whose rune is not loaded. Returns SAM_NONE if the
+    /// file is not open, or if all are loaded from there on: sam_client_len tells the two apart.
+    pub fn sam_client_first_gap(client: *mut sam_client, tag: u16, place: u32, gap: *mut u32) -> sam_status;
+    /// Copies the shown runes of an open file from the place `place` on as numbers, as many as there are and fit, with SAM_GAP for each
+    /// that is not loaded. Hands out their number. The room counts runes. Returns SAM_NONE if the file is not open.
+    pub fn sam_client_read(client: *mut sam_client, tag: u16, place: u32, into: *mut u32, room: usize, count: *mut u32) -> sam_status;
+    /// Copies the shown text of an open file from the place `place` on, up to the first rune that is not loaded, in UTF-8, as many whole
+    /// runes as fit, as sam_overlay_text does. Hands out the number of bytes and the number of runes. Returns SAM_NONE if the file is not
+    /// open.
+    pub fn sam_client_text(
+        client: *mut sam_client,
+        tag: u16,
+        place: u32,
+        into: *mut u8,
+        room: usize,
+        bytes: *mut usize,
+        runes: *mut u32,
+    ) -> sam_status;
 
     /// Reads the message that bytes spell, all of them. Refused, in this order, and the note is then as it was: SAM_NOTE_BAD_KIND (skip
     /// such a message: it comes from a later version); SAM_NOTE_BAD_LENGTH if there is no byte, if there are too few or too many for the

@@ -180,6 +180,8 @@ pub enum Error {
     CountFull,
     /// Earlier work waits, so make steps, and take the splices, first; the input was not taken.
     Waiting,
+    /// 1,000 requests of a client wait, so go on first; the input was not taken.
+    TooMany,
     /// Bytes that are not UTF-8.
     NotText,
     /// A name above 64 runes, or a text above 1,000,000.
@@ -220,6 +222,7 @@ impl Error {
             sys::SAM_UNFINISHED => Error::Unfinished,
             sys::SAM_COUNT_FULL => Error::CountFull,
             sys::SAM_WAITING => Error::Waiting,
+            sys::SAM_TOO_MANY => Error::TooMany,
             sys::SAM_NOT_TEXT => Error::NotText,
             sys::SAM_ADD_TOO_LONG => Error::TooLong,
             sys::SAM_ADD_NO_TAG => Error::NoTag,
@@ -245,6 +248,7 @@ impl Error {
             Error::Unfinished => sys::SAM_UNFINISHED,
             Error::CountFull => sys::SAM_COUNT_FULL,
             Error::Waiting => sys::SAM_WAITING,
+            Error::TooMany => sys::SAM_TOO_MANY,
             Error::NotText => sys::SAM_NOT_TEXT,
             Error::TooLong => sys::SAM_ADD_TOO_LONG,
             Error::NoTag => sys::SAM_ADD_NO_TAG,
@@ -299,6 +303,7 @@ mod tests {
         (6, Error::NotText),
         (7, Error::NoFile),
         (8, Error::Waiting),
+        (10, Error::TooMany),
         (19, Error::TooLong),
         (20, Error::NoTag),
         (33, Error::Stream(StreamFault::BadKind)),

@@ -1,5 +1,6 @@
 //! A proved host and a proved terminal for editors whose screen and text live apart, after Rob Pike's sam: safe Rust over the C library.
 //! An [`Overlay`] is a terminal for an editor that takes each key at once: what its user does is shown while it waits.
+//! A [`Client`] is that and its line to the host, for a front end whose connections may break.
 //! A [`Link`] carries the bytes of both over connections that may break; a [`Line`] also says when a terminal is to connect.
 //! `sulgrevad.h` and the page EMBEDDING of the repository have the whole story, and `sulgrevad-sys` says how the library is found.
 //!
@@ -40,6 +41,7 @@
 //! # Ok::<(), sulgrevad::Error>(())
 //! ```
 
+mod client;
 mod error;
 mod host;
 mod line;
@@ -50,6 +52,7 @@ mod script;
 mod step;
 mod terminal;
 
+pub use client::{Client, ClientEvent};
 pub use error::{Error, HostFault, LinkFault, NoteFault, Refusal, StreamFault, TermFault};
 pub use host::Host;
 pub use line::{Line, LineDetails, LineState, Tick};

@@ -8,6 +8,14 @@ use sulgrevad_sys::{self as sys, sam_line};
 /// The most bytes that may come before the host's hello.
 const MOST_WORDS: usize = 65_536;
 
+/// Returns the words that a reader copies.
+pub(crate) fn words_of(read: impl FnOnce(&mut [u8], &mut usize) -> u32) -> Vec<u8> {
+    let mut words = vec![0; MOST_WORDS];
+    let count = tells(|len| read(&mut words, len));
+    words.truncate(count);
+    words
+}
+
 /// What a program is to do for its line.
 #[derive(Clone, Copy, Debug, PartialEq, Eq)]
 pub enum Tick {
@@ -17,8 +25,20 @@ pub enum Tick {
     Connect,
     /// Close the connection, or end the attempt to make one: for the line it is over.
     Drop,
-    /// Call [`Line::ask`]: nothing has come for 15 seconds, though an answer is due.
+    /// Call [`Line::ask`], or have a client go on: nothing has come for 15 seconds, though an answer is due.
     Ask,
+}
+
+impl Tick {
+    /// Returns what the number says.
+    pub(crate) fn of(tick: u32) -> Tick {
+        match tick {
+            sys::SAM_TICK_CONNECT => Tick::Connect,
+            sys::SAM_TICK_DROP => Tick::Drop,
+            sys::SAM_TICK_ASK => Tick::Ask,
+            _ => Tick::Nothing,
+        }
+    }
 }
 
 /// The state of a line.
@@ -73,6 +93,24 @@ pub struct LineDetails {
     pub has_all: bool,
 }
 
+impl LineDetails {
+    /// Returns what the library hands out.
+    pub(crate) fn of(details: &sys::sam_line_details) -> LineDetails {
+        LineDetails {
+            state: LineState::of(details),
+            silence: details.silence,
+            round_trip: details.round_trip,
+            failures: details.failures,
+            attempt: details.attempt,
+            put_count: details.put_count,
+            acknowledged: details.acknowledged,
+            received: details.received,
+            is_known: details.is_known,
+            has_all: details.has_all,
+        }
+    }
+}
+
 /// The terminal's end of a link, which also decides when a connection is to be made, when the host is to be asked, and when the connection
 /// is to be given up. It opens no connection and has no clock: each call takes the time, in milliseconds of any clock that doesn't jump. A
 /// time below the greatest that was handed in counts as the greatest. A put, a note and a piece are taken whole or not at all.
@@ -121,12 +159,7 @@ impl Line {
     /// Returns what the program is to do at this time. What it returns counts as begun: another call at the same time returns something
     /// else, so call it until it returns `Nothing`.
     pub fn tick(&mut self, now: u64) -> Tick {
-        match tells(|tick| unsafe { sys::sam_line_tick(self.at(), now, tick) }) {
-            sys::SAM_TICK_CONNECT => Tick::Connect,
-            sys::SAM_TICK_DROP => Tick::Drop,
-            sys::SAM_TICK_ASK => Tick::Ask,
-            _ => Tick::Nothing,
-        }
+        Tick::of(tells(|tick| unsafe { sys::sam_line_tick(self.at(), now, tick) }))
     }
 
     /// Returns the number of milliseconds until `tick` has something to say, if no other call comes before; `None` if it never has.
@@ -225,27 +258,12 @@ impl Line {
 
     /// Returns the state, the counts and the times of the line.
     pub fn describe(&self, now: u64) -> LineDetails {
-        let details: sys::sam_line_details = tells(|details| unsafe { sys::sam_line_describe(self.at(), now, details) });
-        LineDetails {
-            state: LineState::of(&details),
-            silence: details.silence,
-            round_trip: details.round_trip,
-            failures: details.failures,
-            attempt: details.attempt,
-            put_count: details.put_count,
-            acknowledged: details.acknowledged,
-            received: details.received,
-            is_known: details.is_known,
-            has_all: details.has_all,
-        }
+        LineDetails::of(&tells(|details| unsafe { sys::sam_line_describe(self.at(), now, details) }))
     }
 
     /// Returns the words that came on the newest connection before the host's hello, perhaps of a login. They need be no text.
     pub fn words(&self) -> Vec<u8> {
-        let mut words = vec![0; MOST_WORDS];
-        let count = tells(|len| unsafe { sys::sam_line_words(self.at(), words.as_mut_ptr(), words.len(), len) });
-        words.truncate(count);
-        words
+        words_of(|into, len| unsafe { sys::sam_line_words(self.at(), into.as_mut_ptr(), into.len(), len) })
     }
 }
 

@@ -33,6 +33,23 @@ pub struct Splice {
     pub count: u32,
 }
 
+impl Splice {
+    /// Returns the splice that the library hands out.
+    pub(crate) fn of(splice: sam_splice) -> Splice {
+        Splice {
+            kind: match splice.kind {
+                sys::SAM_SPLICE_CAME => SpliceKind::Came,
+                sys::SAM_SPLICE_WENT => SpliceKind::Went,
+                sys::SAM_SPLICE_FILLED => SpliceKind::Filled,
+                _ => SpliceKind::Emptied,
+            },
+            tag: splice.tag,
+            place: splice.place,
+            count: splice.count,
+        }
+    }
+}
+
 /// Runes that an overlay gives back, because the host left no room for them.
 #[derive(Clone, Debug, PartialEq, Eq)]
 pub struct Dropped {
@@ -44,6 +61,26 @@ pub struct Dropped {
     pub count: u32,
     /// All of them.
     pub text: String,
+}
+
+impl Dropped {
+    /// Returns what a call takes back where so many runes wait; `None` if nothing is to be taken back.
+    pub(crate) fn taken(waiting: u32, take: impl FnOnce(&mut sam_splice, &mut [u8], &mut usize) -> u32) -> Result<Option<Dropped>, Error> {
+        let mut bytes = vec![0; 4 * waiting as usize];
+        let (mut splice, mut len) = (sam_splice::default(), 0);
+        let status = take(&mut splice, &mut bytes, &mut len);
+        if status == sys::SAM_NONE {
+            return Ok(None);
+        }
+        done(status)?;
+        bytes.truncate(len);
+        Ok(Some(Dropped {
+            tag: splice.tag,
+            place: splice.place,
+            count: splice.count,
+            text: String::from_utf8(bytes).expect("the library writes UTF-8"),
+        }))
+    }
 }
 
 /// What became of an edit that waits.
@@ -92,9 +129,17 @@ pub enum Event<'a> {
     PasteCmd,
 }
 
-impl Event<'_> {
+impl<'a> Event<'a> {
+    /// Returns the text that it brings.
+    pub(crate) fn text(self) -> &'a str {
+        match self {
+            Event::SetSnarf(text) | Event::TypeCmd(text) => text,
+            _ => "",
+        }
+    }
+
     /// Returns the event as the library takes it.
-    fn numbers(self) -> sam_event {
+    pub(crate) fn numbers(self) -> sam_event {
         let (kind, tag, start, number) = match self {
             Event::Select(tag, start, end) => (sys::SAM_EVENT_SELECT, tag, start, end),
             Event::Dclick(tag, place) => (sys::SAM_EVENT_DCLICK, tag, place, 0),
@@ -232,30 +277,16 @@ impl Overlay {
     /// where `put_next` returns `Edit(TooLong)`. Returns it; `None` if nothing is to be taken back. Errors, in this order, and the overlay
     /// is then as it was: `Waiting` if splices are left; `NoMemory`.
     pub fn drop_next(&mut self, tag: u16) -> Result<Option<Dropped>, Error> {
-        let mut bytes = vec![0; 4 * self.waiting(tag) as usize];
-        let (mut splice, mut len) = (sam_splice::default(), 0);
-        let status = unsafe { sys::sam_overlay_drop_next(self.at(), tag, &mut splice, bytes.as_mut_ptr(), bytes.len(), &mut len) };
-        if status == sys::SAM_NONE {
-            return Ok(None);
-        }
-        done(status)?;
-        bytes.truncate(len);
-        Ok(Some(Dropped {
-            tag: splice.tag,
-            place: splice.place,
-            count: splice.count,
-            text: String::from_utf8(bytes).expect("the library writes UTF-8"),
-        }))
+        Dropped::taken(self.waiting(tag), |splice, into, len| unsafe {
+            sys::sam_overlay_drop_next(self.at(), tag, splice, into.as_mut_ptr(), into.len(), len)
+        })
     }
 
     /// Takes an event; `step` has it act. An event acts on the terminal's text, so put all that waits over its file first. Errors, in this
     /// order, and the overlay is then as it was: `NoMemory`, if it brings a text; why the terminal has stopped before; `Waiting` until a
     /// step was `Idle` or `Locked`, and while an edit was put that has not acted; `CountFull`; `NoMemory`.
     pub fn bring_event(&mut self, event: Event<'_>) -> Result<(), Error> {
-        let text = match event {
-            Event::SetSnarf(text) | Event::TypeCmd(text) => text,
-            _ => "",
-        };
+        let text = event.text();
         done(unsafe { sys::sam_overlay_bring_event(self.at(), &event.numbers(), text.as_ptr(), text.len()) })
     }
 
@@ -278,18 +309,7 @@ impl Overlay {
 
     /// Returns the next change of the shown text by the last step; `None` if none is left.
     pub fn next_splice(&mut self) -> Option<Splice> {
-        let splice: sam_splice = told(|splice| unsafe { sys::sam_overlay_next_splice(self.at(), splice) })?;
-        Some(Splice {
-            kind: match splice.kind {
-                sys::SAM_SPLICE_CAME => SpliceKind::Came,
-                sys::SAM_SPLICE_WENT => SpliceKind::Went,
-                sys::SAM_SPLICE_FILLED => SpliceKind::Filled,
-                _ => SpliceKind::Emptied,
-            },
-            tag: splice.tag,
-            place: splice.place,
-            count: splice.count,
-        })
+        told(|splice| unsafe { sys::sam_overlay_next_splice(self.at(), splice) }).map(Splice::of)
     }
 
     /// Returns the changes of `next_splice`, up to the last.

@@ -1,0 +1,279 @@
+//! A client: a session over connections that break, what is told, and what is refused.
+
+use sulgrevad::{
+    Client, ClientEvent, Dropped, Error, Event, Host, LineState, Link, LinkFault, Refusal, Role, Splice, SpliceKind, StreamFault, TermStep,
+    Tick, MOST_NOTE,
+};
+
+const ID: [u8; 16] = *b"a session's name";
+
+/// A host with its end of a link, a client, and the number of the connection that stands; 0: none.
+struct Session {
+    host: Host,
+    link: Link,
+    client: Client,
+    attempt: u64,
+    now: u64,
+    splices: Vec<Splice>,
+    notes: Vec<Vec<u8>>,
+    refused: Vec<Result<Refusal, u32>>,
+}
+
+impl Session {
+    fn new(text: &str) -> (Session, u16) {
+        let mut host = Host::new().unwrap();
+        let file = host.add_file("a", text).unwrap();
+        let mut session = Session {
+            host,
+            link: Link::new(Role::Host, ID).unwrap(),
+            client: Client::new(ID, false, 0).unwrap(),
+            attempt: 0,
+            now: 0,
+            splices: Vec::new(),
+            notes: Vec::new(),
+            refused: Vec::new(),
+        };
+        session.connect();
+        for event in [Event::OfferVersion(2), Event::OpenCmd, Event::Open(file), Event::Load(file, 0, 9)] {
+            session.client.ask(event).unwrap();
+            session.settle();
+        }
+        session.splices.clear();
+        (session, file)
+    }
+
+    /// Opens a connection once the client wants one, and hands its hello to the host.
+    fn connect(&mut self) {
+        self.now += 60_000;
+        assert_eq!(self.client.tick(self.now), Tick::Connect);
+        self.attempt = self.client.connected(self.now).unwrap();
+        let mut hello = [0; 42];
+        assert_eq!(self.client.take_out(self.attempt, &mut hello), Ok(42));
+        self.link.answer(&hello).unwrap();
+    }
+
+    /// Breaks the connection, and loses what the client has for it.
+    fn cut(&mut self) {
+        self.client.take_out(self.attempt, &mut [0; 4096]).unwrap();
+        self.client.broken(self.attempt, self.now);
+        self.link.broken(self.attempt);
+    }
+
+    fn go_on(&mut self) {
+        loop {
+            match self.client.next_event(self.now).unwrap() {
+                ClientEvent::Idle => return,
+                ClientEvent::Refused(_, why) => self.refused.push(why),
+                ClientEvent::Note => self.notes.push(self.client.note()),
+                _ => self.splices.extend(self.client.splices()),
+            }
+        }
+    }
+
+    /// Moves the host's bytes to the client, which doesn't go on. Returns how many.
+    fn down(&mut self) -> usize {
+        let mut bytes = [0; 4096];
+        let count = self.link.take_out(self.attempt, &mut bytes).unwrap();
+        self.client.receive(self.attempt, &bytes[..count], self.now).unwrap();
+        count
+    }
+
+    fn settle(&mut self) {
+        let mut bytes = [0; 4096];
+        loop {
+            self.go_on();
+            let up = self.client.take_out(self.attempt, &mut bytes).unwrap();
+            self.link.feed(self.attempt, &bytes[..up]).unwrap();
+            let count = self.link.take_in(&mut bytes);
+            self.host.feed(&bytes[..count]).unwrap();
+            for piece in self.host.take_out() {
+                self.link.put(&piece).unwrap();
+            }
+            if self.down() + up + count == 0 {
+                return;
+            }
+        }
+    }
+
+    /// Has the host say that so many runes come in at a place of file 1, in answer to all that was sent; and, if so, that it is free.
+    fn grow(&mut self, place: u32, count: u32, frees: bool) {
+        let seen = self.client.state().sent.to_be_bytes();
+        let (place, count) = (place.to_be_bytes(), count.to_be_bytes());
+        let mut frames = [&[70, 0, 18][..], &seen, &[0, 1], &place, &count].concat();
+        if frees {
+            frames.extend([&[75, 0, 10][..], &seen, &[0, 1]].concat());
+        }
+        self.link.put(&frames).unwrap();
+        self.down();
+    }
+}
+
+#[test]
+fn what_is_typed_survives_a_lock_and_a_break() {
+    let (mut session, file) = Session::new("hello");
+    assert!(session.client.has_all() && !session.client.is_unsaved(file));
+    session.client.ask(Event::Write(file)).unwrap();
+    session.go_on();
+    session.client.replace(file, 5, 5, " wörld").unwrap();
+    session.cut();
+    session.client.ask(Event::Write(file)).unwrap();
+    session.client.replace(file, 0, 1, "J").unwrap();
+    assert_eq!(session.client.requests(), 1);
+    let client = &session.client;
+    assert!(client.file(file).is_locked && client.is_unsaved(file) && !client.has_all());
+    assert_eq!(
+        (client.waiting(file), client.next_waiting(0), client.next_waiting(2)),
+        (7, Some(file), None)
+    );
+    assert_eq!(
+        (client.len(file), client.read(file, 6, 2)),
+        (Some(11), Some(vec![Some('w'), Some('ö')]))
+    );
+    session.connect();
+    session.settle();
+    assert_eq!(
+        (session.host.text(file).as_deref(), session.client.has_all()),
+        (Some("Jello wörld"), true)
+    );
+    assert_eq!(
+        (session.client.text(file, 0).as_deref(), &session.splices[..]),
+        (Some("Jello wörld"), &[][..])
+    );
+}
+
+#[test]
+fn a_write_has_the_text_that_was_shown() {
+    let (mut session, file) = Session::new("hello");
+    session.client.replace(file, 5, 5, "!").unwrap();
+    session.client.ask(Event::Write(file)).unwrap();
+    session.client.replace(file, 6, 6, "?").unwrap();
+    session.settle();
+    assert_eq!(
+        (session.host.saved(file).as_deref(), session.host.text(file).as_deref()),
+        (Some("hello!"), Some("hello!?"))
+    );
+    for _ in 0..1000 {
+        session.client.ask(Event::Search(file)).unwrap();
+    }
+    assert_eq!(session.client.ask(Event::Search(file)), Err(Error::TooMany));
+}
+
+#[test]
+fn notes_go_both_ways() {
+    let (mut session, _) = Session::new("hello");
+    assert_eq!(session.client.note(), b"");
+    session.client.put_note(b"up", session.now).unwrap();
+    session.link.put_note(b"down").unwrap();
+    session.settle();
+    assert_eq!(
+        (session.link.next_note(), &session.notes[..]),
+        (Some(b"up".to_vec()), &[b"down".to_vec()][..])
+    );
+    assert_eq!(
+        session.client.put_note(&[0; MOST_NOTE + 1], 0),
+        Err(Error::Link(LinkFault::TooLong))
+    );
+}
+
+#[test]
+fn connections_are_due_by_the_clock() {
+    let mut client = Client::new(ID, true, 0).unwrap();
+    assert_eq!(
+        (client.due_in(0), client.tick(0), client.tick(0)),
+        (Some(0), Tick::Connect, Tick::Nothing)
+    );
+    client.not_connected(0);
+    assert_eq!((client.tick(0), client.describe(0).failures), (Tick::Connect, 1));
+    let (mut session, _) = Session::new("");
+    let (client, now) = (&mut session.client, session.now);
+    assert_eq!((client.due_in(now), client.words()), (None, vec![]));
+    client.expect(true, now);
+    assert_eq!(client.due_in(now), Some(15_000));
+    client.expect(false, now);
+    client.address_changed(now);
+    assert_eq!((client.describe(now).state, client.due_in(now)), (LineState::Late, Some(2000)));
+    client.acknowledge().unwrap();
+    assert_eq!(client.take_out(9, &mut [0; 9]), Err(Error::Link(LinkFault::NotOpen)));
+    assert_eq!(client.receive(1, b"\x09", now), Err(Error::Link(LinkFault::BadKind)));
+}
+
+#[test]
+fn runes_without_room_come_back() {
+    let (mut session, file) = Session::new("hello");
+    session.client.ask(Event::View(file, 0, 0)).unwrap(); // so that no gap is asked for
+    session.go_on();
+    session.client.ask(Event::Write(file)).unwrap();
+    session.go_on();
+    session.client.replace(file, 5, 5, "wö").unwrap();
+    assert_eq!(
+        (session.client.drop_next(file), session.client.first_gap(file, 0)),
+        (Ok(None), None)
+    );
+    session.grow(2, 999_995, true);
+    assert!(matches!(
+        session.client.next_event(0),
+        Ok(ClientEvent::Stepped(TermStep::Received { kind: 70, .. }))
+    ));
+    assert_eq!(
+        (session.client.drop_next(file), session.client.next_event(0)),
+        (Err(Error::Waiting), Err(Error::Waiting))
+    );
+    let came = session.client.next_splice().unwrap();
+    assert_eq!(
+        (came.kind, came.place, came.count, session.client.next_splice()),
+        (SpliceKind::Came, 2, 999_995, None)
+    );
+    session.go_on();
+    let dropped = Dropped {
+        tag: file,
+        place: 1_000_000,
+        count: 2,
+        text: "wö".into(),
+    };
+    assert_eq!(
+        (session.client.drop_next(file), session.client.waiting(file)),
+        (Ok(Some(dropped)), 0)
+    );
+}
+
+#[test]
+fn readers_tell_of_the_terminal() {
+    let (mut session, file) = Session::new("hello");
+    for event in [
+        Event::SetSnarf("snarf"),
+        Event::GetSnarf,
+        Event::Select(file, 0, 2),
+        Event::Look(file),
+        Event::NewFile,
+    ] {
+        session.client.ask(event).unwrap();
+        session.settle();
+    }
+    let client = &session.client;
+    assert_eq!(
+        (client.snarfed(), client.pattern(), client.current()),
+        ("snarf".into(), "he".into(), Some(2))
+    );
+    assert_eq!(
+        (client.name(file).as_deref(), client.name(9), client.state().version),
+        (Some("a"), None, 2)
+    );
+}
+
+#[test]
+fn refusals_are_told() {
+    let (mut session, file) = Session::new("hello");
+    assert_eq!(session.client.replace(9, 0, 0, "x"), Err(Error::Edit(Refusal::NoFile)));
+    assert_eq!(session.client.replace(0, 0, 0, "x"), Err(Error::Edit(Refusal::CommandFile)));
+    assert_eq!(session.client.replace(file, 3, 6, "x"), Err(Error::Edit(Refusal::BadPosition)));
+    session.client.ask(Event::Dclick(file, 9)).unwrap();
+    session.go_on();
+    assert_eq!(
+        (&session.refused[..], session.client.fault_place()),
+        (&[Ok(Refusal::BadPosition)][..], None)
+    );
+    session.link.put(b"\xff\0\0").unwrap();
+    session.down();
+    assert_eq!(session.client.next_event(0), Err(Error::Stream(StreamFault::BadKind)));
+    assert!(session.client.fault_place().is_some());
+}

@@ -1,0 +1,244 @@
+-- What the calls of a client do. Times are in milliseconds.
+use Rattle.std.specs.Prelude.{◌≡◌, ◌⊎◌, ◌↔◌, ◌*◌, ℕ, Bool, true, false, nat_le, nat_lt, IsTrue, List, [], ◌∷◌, ◌++◌, drop, length, Option, Some, None, Result, Ok, Err}
+use Rattle.sam_runes.specs.Texts.{is_empty}
+use Rattle.sam_link.specs.Sessions.{IsId}
+use Rattle.sam_link.specs.declared.fault.CallFault.{CallFault}
+use Rattle.sam_link.specs.declared.fault.NotOpen.{NotOpen}
+use Rattle.sam_link.specs.declared.fault.NoteFault.{NoteFault}
+use Rattle.sam_link.specs.declared.hello.Id.{Id}
+use Rattle.sam_link.specs.declared.keeping.PutFault.{PutFault}
+use Rattle.sam_line.specs.Calls.{LineCall}
+use Rattle.sam_line.specs.Calls as line
+use Rattle.sam_line.specs.declared.clock.Tick.{Tick}
+use Rattle.sam_line.specs.declared.fault.ReceiveFault.{ReceiveFault}
+use Rattle.sam_line.specs.declared.line.Line.{Line}
+use Rattle.sam_pending.specs.declared.fault.PendingFault.{PendingFault}
+use Rattle.sam_pending.specs.declared.told.Dropped.{Dropped}
+use Rattle.sam_term.specs.declared.event.UserEvent.{UserEvent}
+use Rattle.sam_endpoint.specs.TermEndpoints.{PlainTermEndpoint}
+use Rattle.sam_endpoint.specs.declared.step.TermStep.TheVariants as step
+use Rattle.sam_overlay.specs.Calls.{PlainOverlay, waiting_at}
+use Rattle.sam_overlay.specs.declared.fault.AskFault.{AskFault}
+use Rattle.sam_overlay.specs.declared.fault.ReplaceFault.{ReplaceFault}
+use Rattle.sam_shown.specs.Splices.{splices_of}
+use Rattle.sam_shown.specs.declared.splices.Splice.{Splice}
+use Rattle.sam_client.specs.Clients.{Act, Does, new_client}
+use Rattle.sam_client.specs.Clients.Act.{OfLine, Replace, Request, TakeBack}
+use Rattle.sam_client.specs.Delivery.{HasAll}
+use Rattle.sam_client.specs.Going.{GoesOn, IfIdle, Rests, most_moves}
+use Rattle.sam_client.specs.Notes.{PutsNote}
+use Rattle.sam_client.specs.declared.event.Event.{Event}
+use Rattle.sam_client.specs.declared.event.Event.TheVariants as tell
+use Rattle.sam_client.specs.declared.fault.GoOnFault.{GoOnFault}
+use Rattle.sam_c.specs.Calls.{AtHandle}
+use Rattle.sam_c.specs.ClientStatus.{ask_status, event_number, go_on_status}
+use Rattle.sam_c.specs.LineStatus.{receive_status, tick_number}
+use Rattle.sam_c.specs.Lines.{CopiesWords}
+use Rattle.sam_c.specs.LinkStatus.{call_status, note_status, out_status, put_status}
+use Rattle.sam_c.specs.Links.{handed_or, id_bytes}
+use Rattle.sam_c.specs.OverlayStatus.{replace_status}
+use Rattle.sam_c.specs.Overlays.{Handed, HandsBack, NextWaiting, WithText, event_of, told_splice}
+use Rattle.sam_c.specs.Status.{ok, no_memory, is_made, no_handle, no_room, nothing, waiting}
+use Rattle.sam_c.specs.Steps.{did_nothing, did_of_term}
+use Rattle.sam_c.specs.declared.client_end.ClientEnd.{ClientEnd}
+use Rattle.sam_c.specs.declared.overlay_calls.SamSplice.{SamSplice}
+use Rattle.sam_c.specs.declared.overlay_events.SamEvent.{SamEvent}
+use Rattle.sam_c.specs.declared.steps.SamDid.{SamDid}
+
+-- ## The parts
+
+-- what waits over the terminal's end
+abbrev pub overlay_of : ClientEnd → PlainOverlay
+overlay_of e = e.client.ordered.overlay
+
+abbrev pub term_of : ClientEnd → PlainTermEndpoint
+term_of e = (overlay_of e).end
+
+abbrev pub line_of : ClientEnd → Line
+line_of e = e.client.line
+
+-- a new client with this id, or why there is none and the handle is as before
+abbrev pub MakesClient : List ℕ → Bool → ℕ → ℕ → Option ClientEnd → Type 0
+MakesClient bytes take_over now status after =
+    ((id : Id) × IsId id × (id_bytes id ≡ bytes) × (status ≡ ok)
+    × (after ≡ Some (record { client = new_client id take_over now; splices = [] })))
+    ⊎ ((status ≡ no_memory) × (after ≡ None))
+
+abbrev pub ClientMade : Option ClientEnd → List ℕ → Bool → ℕ → ℕ → Option ClientEnd → Type 0
+ClientMade None bytes take_over now status after = MakesClient bytes take_over now status after
+ClientMade (Some e) bytes take_over now status after = (status ≡ is_made) × (after ≡ Some e)
+
+-- this act leads there, and the splices stay
+abbrev pub ActsOne : ClientEnd → Act → ClientEnd → Type 0
+ActsOne e act g = Does e.client act g.client × (g.splices ≡ e.splices)
+
+-- ## Connections
+
+abbrev pub ClientTicked : Option ClientEnd → ℕ → ℕ → ℕ → ℕ → Option ClientEnd → Type 0
+ClientTicked None now old status new after = (status ≡ no_handle) × (new ≡ old) × (after ≡ None)
+ClientTicked (Some e) now old status new after =
+    (g : ClientEnd) × (tick : Tick) × (after ≡ Some g) × ActsOne e (OfLine (line.TickAt now tick)) g
+    × (status ≡ ok) × (new ≡ tick_number tick)
+
+abbrev pub ClientConnected : Option ClientEnd → ℕ → ℕ → ℕ → ℕ → Option ClientEnd → Type 0
+ClientConnected None now old status new after = (status ≡ no_handle) × (new ≡ old) × (after ≡ None)
+ClientConnected (Some e) now old status new after =
+    (g : ClientEnd) × (result : Result ℕ CallFault) × (after ≡ Some g) × ActsOne e (OfLine (line.Connected now result)) g
+    × (status ≡ call_status result) × (new ≡ handed_or old result)
+
+-- a call of the line that can't be refused
+abbrev pub ClientDone : Option ClientEnd → LineCall → ℕ → Option ClientEnd → Type 0
+ClientDone before made status after = AtHandle before status after (λ e status g. (status ≡ ok) × ActsOne e (OfLine made) g)
+
+abbrev pub ClientAcknowledged : Option ClientEnd → ℕ → Option ClientEnd → Type 0
+ClientAcknowledged before status after =
+    AtHandle before status after
+    (λ e status g. (result : Result (Unit {0}) PutFault) × ActsOne e (OfLine (line.Acknowledge result)) g × (status ≡ put_status result))
+
+abbrev pub ClientTakenOut : Option ClientEnd → ℕ → List ℕ → List ℕ → ℕ → ℕ → ℕ → Option ClientEnd → Type 0
+ClientTakenOut None attempt before after old status new g = (status ≡ no_handle) × (after ≡ before) × (new ≡ old) × (g ≡ None)
+ClientTakenOut (Some e) attempt before after old status new g =
+    (n : ClientEnd) × (result : Result ℕ NotOpen) × (g ≡ Some n) × ActsOne e (OfLine (line.TakeOut attempt before result after)) n
+    × (status ≡ out_status result) × (new ≡ handed_or old result)
+
+abbrev pub ClientReceived : Option ClientEnd → ℕ → List ℕ → ℕ → ℕ → Option ClientEnd → Type 0
+ClientReceived before attempt piece now status after =
+    AtHandle before status after
+    (λ e status g. (result : Result (Unit {0}) ReceiveFault) × ActsOne e (OfLine (line.Receive attempt piece now result)) g
+    × (status ≡ receive_status result))
+
+-- ## Going on
+
+-- what is told, and what a step did
+pub record Heard : Type 0 where
+  pub kind : ℕ
+  pub did : SamDid
+
+abbrev pub heard : ℕ → SamDid → Heard
+heard kind did = record { kind = kind; did = did }
+
+-- what was done, if the event says that
+abbrev pub event_did : Event → SamDid
+event_did tell.Idle = did_nothing 0
+event_did tell.Busy = did_nothing 0
+event_did (tell.Stepped x) = did_of_term x.step
+event_did (tell.Refused number why) = did_of_term (step.Refused number why)
+event_did tell.Note = did_nothing 0
+
+-- what is told, or what stood there before
+abbrev pub heard_or : Heard → Result Event GoOnFault → Heard
+heard_or before (Ok event) = heard (event_number event) (event_did event)
+heard_or before (Err why) = before
+
+-- a step brings its splices
+abbrev pub splices_after : List Splice → Event → List Splice
+splices_after before tell.Idle = before
+splices_after before tell.Busy = before
+splices_after before (tell.Stepped x) = splices_of x.tag x.told
+splices_after before (tell.Refused number why) = before
+splices_after before tell.Note = before
+
+abbrev pub splices_or : List Splice → Result Event GoOnFault → List Splice
+splices_or before (Ok event) = splices_after before event
+splices_or before (Err why) = before
+
+-- one call of going on; while splices are left all is as before
+abbrev pub GoesOnOne : ClientEnd → Bool → ℕ → Heard → ℕ → Heard → ClientEnd → Type 0
+GoesOnOne e false now old status new g = (status ≡ waiting) × (new ≡ old) × (g ≡ e)
+GoesOnOne e true now old status new g =
+    (result : Result Event GoOnFault) × GoesOn now most_moves e.client result g.client × IfIdle result (Rests g.client)
+    × (g.splices ≡ splices_or e.splices result) × (status ≡ go_on_status result) × (new ≡ heard_or old result)
+
+abbrev pub ClientWentOn : Option ClientEnd → ℕ → Heard → ℕ → Heard → Option ClientEnd → Type 0
+ClientWentOn None now old status new after = (status ≡ no_handle) × (new ≡ old) × (after ≡ None)
+ClientWentOn (Some e) now old status new after =
+    (g : ClientEnd) × (after ≡ Some g) × GoesOnOne e (is_empty e.splices) now old status new g
+
+-- the next splice is handed out
+abbrev pub FirstSplice : ClientEnd → List Splice → SamSplice → ℕ → SamSplice → Option ClientEnd → Type 0
+FirstSplice e [] old status new after = (status ≡ nothing) × (new ≡ old) × (after ≡ Some e)
+FirstSplice e (x ∷ rest) old status new after = (status ≡ ok) × (new ≡ told_splice x) × (after ≡ Some (record e { splices = rest }))
+
+abbrev pub ClientNextSplice : Option ClientEnd → SamSplice → ℕ → SamSplice → Option ClientEnd → Type 0
+ClientNextSplice None old status new after = (status ≡ no_handle) × (new ≡ old) × (after ≡ None)
+ClientNextSplice (Some e) old status new after = FirstSplice e e.splices old status new after
+
+-- ## Notes
+
+-- the note that was told last, whole
+abbrev pub CopiesNote : List ℕ → Bool → List ℕ → List ℕ → ℕ → ℕ → ℕ → Type 0
+CopiesNote note true before after old status new = (status ≡ no_room) × (after ≡ before) × (new ≡ old)
+CopiesNote note false before after old status new = (status ≡ ok) × (after ≡ note ++ drop new before) × (new ≡ length note)
+
+abbrev pub ClientNote : Option ClientEnd → List ℕ → List ℕ → ℕ → ℕ → ℕ → Type 0
+ClientNote None before after old status new = (status ≡ no_handle) × (after ≡ before) × (new ≡ old)
+ClientNote (Some e) before after old status new =
+    CopiesNote e.client.note (nat_lt (length before) (length e.client.note)) before after old status new
+
+abbrev pub ClientNotePut : Option ClientEnd → List ℕ → ℕ → ℕ → Option ClientEnd → Type 0
+ClientNotePut before bytes now status after =
+    AtHandle before status after
+    (λ e status g. (result : Result (Unit {0}) NoteFault) × PutsNote e.client bytes now result g.client × (g.splices ≡ e.splices)
+    × (status ≡ note_status result))
+
+-- ## What the user does
+
+-- while splices are left all is as before
+abbrev pub ReplacesOne : ClientEnd → Bool → ℕ → ℕ × ℕ → List ℕ → ℕ → ClientEnd → Type 0
+ReplacesOne e false tag range runes status g = (status ≡ waiting) × (g ≡ e)
+ReplacesOne e true tag range runes status g =
+    (result : Result (Unit {0}) ReplaceFault) × ActsOne e (Replace tag range.0 range.1 runes result) g
+    × (status ≡ replace_status (term_of e).stop result)
+
+abbrev pub ClientReplacedBy : Option ClientEnd → ℕ → ℕ × ℕ → List ℕ → ℕ → Option ClientEnd → Type 0
+ClientReplacedBy before tag range runes status after =
+    AtHandle before status after (λ e status g. ReplacesOne e (is_empty e.splices) tag range runes status g)
+
+abbrev pub ClientReplaced : Option ClientEnd → ℕ → ℕ × ℕ → List ℕ → ℕ → Option ClientEnd → Type 0
+ClientReplaced before tag range text status after =
+    AtHandle before status after
+    (λ e status g. WithText e text (λ runes status g. ReplacesOne e (is_empty e.splices) tag range runes status g) status g)
+
+-- the request is taken; if there is none, nothing is done
+abbrev pub AsksOne : ClientEnd → Option UserEvent → ℕ → ClientEnd → Type 0
+AsksOne e None status g = (status ≡ nothing) × (g ≡ e)
+AsksOne e (Some event) status g =
+    (result : Result (Unit {0}) AskFault) × ActsOne e (Request event result) g × (status ≡ ask_status result)
+
+abbrev pub ClientAskedOne : Option ClientEnd → Option UserEvent → ℕ → Option ClientEnd → Type 0
+ClientAskedOne before event status after = AtHandle before status after (λ e status g. AsksOne e event status g)
+
+abbrev pub ClientAsked : Option ClientEnd → SamEvent → List ℕ → ℕ → Option ClientEnd → Type 0
+ClientAsked before x text status after =
+    AtHandle before status after (λ e status g. WithText e text (λ runes status g. AsksOne e (event_of x runes) status g) status g)
+
+-- runes for which the host left no room
+abbrev pub TakesBack : ClientEnd → ℕ → Handed → ℕ → Handed → ClientEnd → Type 0
+TakesBack e tag old status new g =
+    (result : Result (Option Dropped) PendingFault) × ActsOne e (TakeBack tag result) g × HandsBack tag result old status new
+
+-- while splices are left all is as before, and so where the buffer has less than four bytes for each rune that waits
+abbrev pub DropsOne : ClientEnd → Bool → Bool → ℕ → Handed → ℕ → Handed → ClientEnd → Type 0
+DropsOne e false fits tag old status new g = (status ≡ waiting) × (new ≡ old) × (g ≡ e)
+DropsOne e true false tag old status new g = (status ≡ no_room) × (new ≡ old) × (g ≡ e)
+DropsOne e true true tag old status new g = TakesBack e tag old status new g
+
+abbrev pub ClientDropped : Option ClientEnd → ℕ → Handed → ℕ → Handed → Option ClientEnd → Type 0
+ClientDropped None tag old status new after = (status ≡ no_handle) × (new ≡ old) × (after ≡ None)
+ClientDropped (Some e) tag old status new after =
+    (g : ClientEnd) × (after ≡ Some g)
+    × DropsOne e (is_empty e.splices) (nat_le (4 * waiting_at (overlay_of e) tag) (length old.buffer)) tag old status new g
+
+-- ## Readers
+
+abbrev pub ClientHasAll : Option ClientEnd → ℕ → Bool → Bool → Type 0
+ClientHasAll None status old new = (status ≡ no_handle) × (new ≡ old)
+ClientHasAll (Some e) status old new = (status ≡ ok) × (IsTrue new ↔ HasAll e.client)
+
+abbrev pub ClientNextWaiting : Option ClientEnd → ℕ → ℕ → ℕ → ℕ → Type 0
+ClientNextWaiting None from status before after = (status ≡ no_handle) × (after ≡ before)
+ClientNextWaiting (Some e) from status before after = NextWaiting (overlay_of e) from status before after
+
+abbrev pub ClientWords : Option ClientEnd → List ℕ → List ℕ → ℕ → ℕ → ℕ → Type 0
+ClientWords None before after old status new = (status ≡ no_handle) × (after ≡ before) × (new ≡ old)
+ClientWords (Some e) before after old status new = CopiesWords (line_of e) before after status new

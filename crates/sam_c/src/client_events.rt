@@ -1,0 +1,270 @@
+//! What C calls to have a client go on, and what its user does: include/sulgrevad.h says of each call what it does. A call returns a number
+//! of `sam_status`; after `SAM_NO_HANDLE`, `SAM_NONE` and each refusal what its other arguments lead to is as it was. `now` is the time, in
+//! milliseconds.
+
+ghost use Rattle.std.specs.Prelude.{◌≡◌, ◌≤◌, ◌*◌, IfSome, IsTrue, length, nat_lt};
+ghost use Rattle.sam_overlay.specs.Calls.{waiting_at};
+ghost use Rattle.sam_overlay.specs.Overlays.{is_request};
+ghost use Rattle.sam_c.specs.ClientStatus.{event_number};
+ghost use Rattle.sam_c.specs.Clients.{ClientAsked, ClientAskedOne, ClientDropped, ClientNextSplice, ClientNote, ClientNotePut};
+ghost use Rattle.sam_c.specs.Clients.{ClientReplaced, ClientReplacedBy, ClientWentOn, CopiesNote, TakesBack};
+ghost use Rattle.sam_c.specs.Clients.{event_did, heard, overlay_of, splices_after};
+ghost use Rattle.sam_c.specs.Overlays.{handed};
+
+use crate::client_end::ClientEnd;
+use crate::client_status::{ask_status, event_number, go_on_fault};
+use crate::handle::{SamClient, with_end};
+use crate::link_status::note_status;
+use crate::overlay_calls::{SamSplice, told_splice};
+use crate::overlay_drops::hand_back;
+use crate::overlay_events::{SamEvent, event_of};
+use crate::overlay_status::replace_fault;
+use crate::status::{NO_HANDLE, NO_ROOM, NONE, OK, WAITING};
+use crate::steps::{IDLE, SamDid, did_nothing, did_of_term};
+use crate::term_events::read_status;
+use sam_client::Event;
+use sam_endpoint::TermStep;
+use sam_runes::read_utf8;
+use sam_shown::Splices;
+use sam_term::UserEvent;
+use std::alloc::Global;
+
+/// Hands out what is told: its number, what a step did, and the splices of that step.
+fn tell_event(event: Event, kind: &mut u32, did: &mut SamDid, splices: &mut Splices)
+    ensures kind { kind.new ≡ event_number event }
+    ensures did { did.new ≡ event_did event }
+    ensures splices { splices.new ≡ splices_after splices.old event }
+{
+    *kind = event_number(&event);
+    *did = did_nothing(IDLE);
+    match event {
+        Event::Idle | Event::Busy | Event::Note => {}
+        Event::Refused(number, why) => *did = did_of_term(TermStep::Refused { number, why }),
+        Event::Stepped(step) => {
+            *did = did_of_term(step.step);
+            *splices = Splices::of(step.tag, step.told);
+        }
+    }
+}
+
+/// Goes on until there is something to tell, and hands out what: a number of `sam_client_event`, and what was done, if it says that.
+/// `sam_client_next_splice` then hands out how what is shown changed.
+///
+/// Returns `SAM_OK`, or in this order `SAM_NO_HANDLE`; `SAM_WAITING` if splices of an earlier step are left; what
+/// [`Client::go_on`](sam_client::Client::go_on) answers: why the terminal has stopped, at this call or before; `SAM_COUNT_FULL`;
+/// `SAM_UNFINISHED` if memory was refused. Nothing is lost by them, but a part of what waited may be done.
+#[unsafe(no_mangle)]
+pub extern "C" fn sam_client_next_event(
+    client: &mut SamClient,
+    now: u64,
+    kind: &mut u32,
+    did: &mut SamDid,
+    alloc: Global,
+) -> u32
+    ensures { ClientWentOn client.old.held.end now (heard kind.old did.old) result (heard kind.new did.new) client.new.held.end }
+{
+    with_end!(client alloc mut end {
+        if end.splices.is_empty() {
+            match end.client.go_on(now) {
+                Ok(event) => {
+                    tell_event(event, kind, did, &mut end.splices);
+                    OK
+                }
+                Err(why) => go_on_fault(why),
+            }
+        } else {
+            WAITING
+        }
+    })
+}
+
+/// Hands out the next change of what is shown by the last step. `SAM_NO_HANDLE` if the handle is empty; `SAM_NONE` if none is left.
+#[unsafe(no_mangle)]
+pub extern "C" fn sam_client_next_splice(
+    client: &mut SamClient,
+    splice: &mut SamSplice,
+    alloc: Global,
+) -> u32
+    ensures { ClientNextSplice client.old.held.end splice.old result splice.new client.new.held.end }
+{
+    with_end!(client alloc mut end {
+        match end.splices.next() {
+            Some(next) => {
+                *splice = told_splice(next);
+                OK
+            }
+            None => NONE,
+        }
+    })
+}
+
+/// Copies a note into the buffer, and hands out its length, if there is room for all of it.
+fn copy_note(note: &[u8], into: &mut [u8], len: &mut usize) -> u32
+    ensures { CopiesNote note.now (nat_lt (length into.old) (length note.now)) into.old into.new len.old result len.new }
+{
+    let count = note.len();
+    if into.len() < count {
+        return NO_ROOM;
+    }
+    into[..count].copy_from_slice(note);
+    *len = count;
+    OK
+}
+
+/// Copies the note that was told last into the buffer, and hands out its length. Errors, in this order: `SAM_NO_HANDLE`; `SAM_NO_ROOM` if
+/// the buffer has less room than the note. The client is as it was.
+#[unsafe(no_mangle)]
+pub extern "C" fn sam_client_note(
+    client: &mut SamClient,
+    into: &mut [u8],
+    len: &mut usize,
+    alloc: Global,
+) -> u32
+    ensures told { ClientNote client.old.held.end into.old into.new len.old result len.new }
+    ensures kept { client.new.held.end ≡ client.old.held.end }
+{
+    with_end!(client alloc end { copy_note(end.client.note(), into, len) })
+}
+
+/// Puts a note for the host's program, behind all that the user did and that was composed. Errors, in this order: `SAM_NO_HANDLE`;
+/// `SAM_LINK_TOO_LONG`; `SAM_COUNT_FULL`; `SAM_NO_MEMORY`. After an error the note is not put.
+#[unsafe(no_mangle)]
+pub extern "C" fn sam_client_put_note(
+    client: &mut SamClient,
+    bytes: &[u8],
+    now: u64,
+    alloc: Global,
+) -> u32
+    ensures { ClientNotePut client.old.held.end bytes.now now result client.new.held.end }
+{
+    with_end!(client alloc mut end { note_status(end.client.put_note(bytes, now)) })
+}
+
+/// Puts the runes in the place of what is shown of a file from the place `start` to the place `end`, in the client that a handle holds.
+fn replace(
+    client: &mut SamClient,
+    tag: u16,
+    range: (u32, u32),
+    runes: &[char],
+    alloc: Global,
+) -> u32
+    ensures { ClientReplacedBy client.old.held.end tag range runes.now result client.new.held.end }
+{
+    with_end!(client alloc mut end {
+        if end.splices.is_empty() {
+            match end.client.replace(tag, range.0, range.1, runes) {
+                Ok(()) => OK,
+                Err(why) => replace_fault(end.client.overlay().end().stopped(), why),
+            }
+        } else {
+            WAITING
+        }
+    })
+}
+
+/// Puts a text in the place of what is shown of a file from the place `start` to the place `end`. It is shown at once, and goes to the host
+/// as the client goes on.
+///
+/// Returns `SAM_OK`, or in this order `SAM_NO_HANDLE`; `SAM_NOT_TEXT` if the text is not UTF-8, and `SAM_NO_MEMORY` if there is no memory
+/// for its runes; `SAM_WAITING` if splices of the last step are left; what [`Client::replace`](sam_client::Client::replace) answers, by the
+/// numbers `SAM_REFUSAL..`. After an error the client is as it was.
+#[unsafe(no_mangle)]
+pub extern "C" fn sam_client_replace(
+    client: &mut SamClient,
+    tag: u16,
+    start: u32,
+    end: u32,
+    text: &[u8],
+    alloc: Global,
+) -> u32
+    ensures { ClientReplaced client.old.held.end tag (start, end) text.now result client.new.held.end }
+{
+    if !client.is_made() {
+        return NO_HANDLE;
+    }
+    match read_utf8(alloc, text) {
+        Ok(runes) => replace(client, tag, (start, end), runes.as_slice(), alloc),
+        Err(why) => read_status(why),
+    }
+}
+
+/// Has the client that a handle holds take the request, and returns what came of it: `NONE` if there is none.
+fn ask_one(client: &mut SamClient, event: Option<UserEvent>, alloc: Global) -> u32
+    requires { IfSome event (λ x. IsTrue (is_request x)) }
+    ensures { ClientAskedOne client.old.held.end event result client.new.held.end }
+{
+    with_end!(client alloc mut end {
+        match event {
+            Some(event) => ask_status(end.client.ask(event)),
+            None => NONE,
+        }
+    })
+}
+
+/// Takes an event of the user that is no edit, or one of the command file, in behind the others. It acts as the client goes on, and finds
+/// what is shown now.
+///
+/// Returns `SAM_OK`, or in this order `SAM_NO_HANDLE`; `SAM_NOT_TEXT` if the text is not UTF-8, and `SAM_NO_MEMORY` if there is no memory
+/// for its runes; `SAM_NONE` if no event has this number; what [`Client::ask`](sam_client::Client::ask) answers, in its order:
+/// `SAM_WAITING`, `SAM_TOO_MANY`, `SAM_COUNT_FULL`, `SAM_NO_MEMORY`. After an error the client is as it was.
+#[unsafe(no_mangle)]
+pub extern "C" fn sam_client_ask(
+    client: &mut SamClient,
+    event: &SamEvent,
+    text: &[u8],
+    alloc: Global,
+) -> u32
+    ensures { ClientAsked client.old.held.end event.now text.now result client.new.held.end }
+{
+    if !client.is_made() {
+        return NO_HANDLE;
+    }
+    match read_utf8(alloc, text) {
+        Ok(runes) => ask_one(client, event_of(event, runes), alloc),
+        Err(why) => read_status(why),
+    }
+}
+
+/// Takes back the next runes that wait over a file, if the host left no room for them, and hands them out.
+fn take_back(
+    end: &mut ClientEnd,
+    tag: u16,
+    splice: &mut SamSplice,
+    into: &mut [u8],
+    len: &mut usize,
+) -> u32
+    requires { 4 * waiting_at (overlay_of end.old) tag ≤ length into.old }
+    ensures { TakesBack end.old tag (handed splice.old into.old len.old) result (handed splice.new into.new len.new) end.new }
+{
+    let came = end.client.drop_next(tag);
+    hand_back(tag, came, splice, into, len)
+}
+
+/// Takes back the next runes that wait over a file for which the host left no room, and hands them out in UTF-8 with the splice by which
+/// they went of what is shown.
+///
+/// Returns `SAM_OK`, or in this order `SAM_NO_HANDLE`; `SAM_WAITING` if splices of the last step are left; `SAM_NO_ROOM` if the buffer has
+/// less than four bytes for each rune that `sam_client_waiting` counts; `SAM_NONE` if nothing is to be taken back; `SAM_NO_MEMORY`. After
+/// an error the client, and what the other arguments lead to, is as it was.
+#[unsafe(no_mangle)]
+pub extern "C" fn sam_client_drop_next(
+    client: &mut SamClient,
+    tag: u16,
+    splice: &mut SamSplice,
+    into: &mut [u8],
+    len: &mut usize,
+    alloc: Global,
+) -> u32
+    ensures { ClientDropped client.old.held.end tag (handed splice.old into.old len.old) result (handed splice.new into.new len.new)
+        client.new.held.end }
+{
+    with_end!(client alloc mut end {
+        if !end.splices.is_empty() {
+            WAITING
+        } else if into.len() < end.client.overlay().waiting(tag) as usize * 4 {
+            NO_ROOM
+        } else {
+            take_back(&mut end, tag, splice, into, len)
+        }
+    })
+}
