@@ -1547,10 +1547,11 @@ SAM_MUST_USE sam_status sam_client_replace(sam_client *client, uint16_t tag, uin
 
 /* Asks for what is no edit: an event of an overlay (enum sam_event_kind), with its text if it brings one. It stands in one order with the
  * edits: it acts as the client goes on, once all edits before it are put, and finds the text that is shown now, with the host's changes
- * since. A place that it names is one of that text, and doesn't move with them. Requests act in the order in which they were asked for.
- * Refused, in this order, and the client is then as it was: SAM_NOT_TEXT if the text is not UTF-8; SAM_NO_MEMORY if there is no memory for
- * its runes; SAM_NONE if no event has this kind; SAM_WAITING while an edit was put that has not acted: go on first; SAM_TOO_MANY if 1,000
- * requests wait; SAM_COUNT_FULL if 2^32-1 were taken while edits or requests waited; SAM_NO_MEMORY. */
+ * since. A place that it names is one of that text, and doesn't move with them. Requests act in the order in which they were asked for; a
+ * write that would find the same text as one that waits is that one. Refused, in this order, and the client is then as it was: SAM_NOT_TEXT
+ * if the text is not UTF-8; SAM_NO_MEMORY if there is no memory for its runes; SAM_NONE if no event has this kind; SAM_WAITING while an
+ * edit was put that has not acted: go on first; SAM_TOO_MANY if 1,000 requests wait; SAM_COUNT_FULL if 2^32-1 were taken while edits or
+ * requests waited; SAM_NO_MEMORY. */
 SAM_MUST_USE sam_status sam_client_ask(sam_client *client, const sam_event *event, const uint8_t *text, size_t len);
 
 /* Takes back the next insertion that waits over a file, if an edit could act at once and the file has no room for this one, because the

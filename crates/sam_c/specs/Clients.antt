@@ -20,6 +20,7 @@ use Rattle.sam_endpoint.specs.declared.step.TermStep.TheVariants as step
 use Rattle.sam_overlay.specs.Calls.{PlainOverlay, waiting_at}
 use Rattle.sam_overlay.specs.declared.fault.AskFault.{AskFault}
 use Rattle.sam_overlay.specs.declared.fault.ReplaceFault.{ReplaceFault}
+use Rattle.sam_overlay.specs.declared.shown_change.Asked.{Asked}
 use Rattle.sam_shown.specs.Splices.{splices_of}
 use Rattle.sam_shown.specs.declared.splices.Splice.{Splice}
 use Rattle.sam_client.specs.Clients.{Act, Does, new_client}
@@ -203,7 +204,7 @@ ClientReplaced before tag range text status after =
 abbrev pub AsksOne : ClientEnd → Option UserEvent → ℕ → ClientEnd → Type 0
 AsksOne e None status g = (status ≡ nothing) × (g ≡ e)
 AsksOne e (Some event) status g =
-    (result : Result (Unit {0}) AskFault) × ActsOne e (Request event result) g × (status ≡ ask_status result)
+    (result : Result Asked AskFault) × ActsOne e (Request event result) g × (status ≡ ask_status result)
 
 abbrev pub ClientAskedOne : Option ClientEnd → Option UserEvent → ℕ → Option ClientEnd → Type 0
 ClientAskedOne before event status after = AtHandle before status after (λ e status g. AsksOne e event status g)
