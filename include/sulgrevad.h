@@ -26,11 +26,10 @@
  * (U+0000) as they hold any other rune, and no call adds one at their end: go by the lengths. Runes are counted by uint32_t; bytes in
  * memory, the room of a buffer, tags and lines of a script by size_t; events, messages and the bytes of a whole stream by uint64_t.
  *
- * Handles. sam_host, sam_term, sam_overlay, sam_link, sam_line and sam_client are the caller's, on the stack or anywhere else. A handle
- * whose bytes are all zero is empty: SAM_HOST_INIT, SAM_TERM_INIT, SAM_OVERLAY_INIT, SAM_LINK_INIT, SAM_LINE_INIT and SAM_CLIENT_INIT are,
- * and in C so is {0}. sam_host_new and its like make it, and sam_host_free and its like leave it empty again. The caller doesn't read,
- * change or copy a handle that is made. Readers take it without const, because each call takes out the content of the handle and puts it
- * back: two of them may not run at once.
+ * Handles. sam_host, sam_term, sam_overlay, sam_link, sam_line, sam_client, sam_server and sam_recovery are the caller's, on the stack or
+ * anywhere else. A handle whose bytes are all zero is empty: SAM_HOST_INIT and its like are, and in C so is {0}. sam_host_new and its like
+ * make it, and sam_host_free and its like leave it empty again. The caller doesn't read, change or copy a handle that is made. Readers take
+ * it without const, because each call takes out the content of the handle and puts it back: two of them may not run at once.
  *
  * Status. Each call returns an enum sam_status, but for sam_library_version, sam_status_text and sam_is_stop, and hands other results out
  * through pointers. A call refuses a handle that is NULL or empty first of all (SAM_NO_HANDLE); its comment says the refusals after that.
@@ -204,6 +203,11 @@ enum sam_status {
     SAM_JOURNAL_TORN = SAM_JOURNAL + 6,          /* no whole record of this number stands there */
     SAM_JOURNAL_TOO_LONG = SAM_JOURNAL + 7,      /* a body of 2^32 bytes or more */
 
+    SAM_SERVER = 288,                       /* why a durable server has stopped, or a record is not taken again */
+    SAM_SERVER_COUNT_FULL = SAM_SERVER + 1, /* its stream or the terminal's would have 2^64 bytes, and it has stopped */
+    SAM_SERVER_NO_RECORD = SAM_SERVER + 2,  /* sam_recovery_take: the bytes are those of no record */
+    SAM_SERVER_NOT_TAKEN = SAM_SERVER + 3,  /* sam_recovery_take: the records before it lead to no server that takes it */
+
     SAM_STATUS_WIDTH = 0x7FFFFFFF /* never returned: it keeps the type at 32 bits under any compiler's options */
 };
 typedef enum sam_status sam_status;
@@ -213,8 +217,8 @@ typedef enum sam_status sam_status;
 const char *sam_status_text(sam_status status);
 
 /* Returns whether a status says that the handle has stopped for good. A feed, an event or a step returns one of these if the other side's
- * stream is wrong or was refused, or if a terminal has composed 2^64-1 messages. After any other status the handle goes on: SAM_NO_MEMORY,
- * SAM_UNFINISHED, SAM_COUNT_FULL, SAM_NOT_TEXT, SAM_TRUNCATED. */
+ * stream is wrong or was refused, if a terminal has composed 2^64-1 messages, or if a count of a durable server is full. After any other
+ * status the handle goes on: SAM_NO_MEMORY, SAM_UNFINISHED, SAM_COUNT_FULL, SAM_NOT_TEXT, SAM_TRUNCATED. */
 bool sam_is_stop(sam_status status);
 
 /* ---- Handles ---- */
@@ -261,6 +265,20 @@ struct sam_client {
 };
 typedef struct sam_client sam_client;
 
+/* The handle of a durable server. Both fields are the library's. */
+struct sam_server {
+    void *at;
+    uint64_t made;
+};
+typedef struct sam_server sam_server;
+
+/* The handle of a recovery. Both fields are the library's. */
+struct sam_recovery {
+    void *at;
+    uint64_t made;
+};
+typedef struct sam_recovery sam_recovery;
+
 /* Empty handles, as in `sam_host host = SAM_HOST_INIT;`. */
 /* clang-format off */
 #define SAM_HOST_INIT {NULL, 0}
@@ -269,6 +287,8 @@ typedef struct sam_client sam_client;
 #define SAM_LINK_INIT {NULL, 0}
 #define SAM_LINE_INIT {NULL, 0}
 #define SAM_CLIENT_INIT {NULL, 0}
+#define SAM_SERVER_INIT {NULL, 0}
+#define SAM_RECOVERY_INIT {NULL, 0}
 /* clang-format on */
 
 /* ---- Single steps ---- */
@@ -1776,6 +1796,188 @@ SAM_MUST_USE sam_status sam_journal_read(const uint8_t *bytes, size_t len, uint6
  * if the file ends there. Refused: SAM_JOURNAL_TORN. */
 SAM_MUST_USE sam_status sam_journal_next(const uint8_t *bytes, size_t len, size_t place, uint64_t random, uint64_t number,
                                          sam_record *found);
+
+/* ==== A durable server ====
+ *
+ * A durable server is a host with its end of a link that outlives a crash. It makes a record of each thing that it takes: of files,
+ * connections, pieces that a connection brought, messages and endings. The program writes the records to a journal, in order, and tells how
+ * many are durable. Nothing that a record decides goes out before that record is durable. So the terminal never learns of anything that a
+ * crash undoes. After a crash a recovery makes the server again of the durable records, and the terminal connects again as after any broken
+ * connection. The server opens no file and no connection, and knows no clock: the program carries all bytes.
+ *
+ *     sam_server_accept(&server, hello, 42)            the first 42 bytes of a new connection
+ *     sam_server_receive(&server, attempt, ..)         the bytes that it brings behind them
+ *     sam_server_next_record(&server, ..)              into the journal, until SAM_NONE
+ *     sam_server_durable(&server, count)               so many more of the records are safe: after fdatasync, say
+ *     sam_server_take_out(&server, attempt, ..)        bytes for the connection
+ *     sam_server_next_effect(&server, &effect)         what the program is asked to do: write a file, or hear a message
+ *     sam_server_effect_done(&server, ending)          it is done, and the server goes on behind it
+ *
+ * After a crash, of the records of the journal, from the oldest on:
+ *
+ *     sam_recovery_new(&recovery, id)
+ *     sam_recovery_take(&recovery, body, len)          each record
+ *     sam_recovery_finish(&recovery, &server)          the server goes on
+ *
+ * The terminal's side is a link or a line: sam_link_.., sam_line_... Places of texts, tags and names are those of sam_host_... A journal may
+ * be one of sam_journal_.., whose records have these bodies.
+ *
+ * Statuses of a call that takes something come in this order: SAM_NO_HANDLE; SAM_STREAM.., SAM_HOST_REFUSED.. or SAM_SERVER_COUNT_FULL if
+ * the server has stopped before; SAM_WAITING if earlier work is left; SAM_NO_MEMORY; the call's own refusals. Nothing is taken then, and no
+ * record is made. Behind them, once it is taken, come SAM_UNFINISHED if memory is short, and why the server stops. Until sam_server_go_on has
+ * returned SAM_OK after SAM_UNFINISHED, no other call takes anything, nothing goes out, and the record of what was taken is not handed out.
+ * Of these calls those that can return SAM_NO_MEMORY or SAM_UNFINISHED take memory, the others none. */
+
+/* The kinds of effects. */
+enum sam_effect_kind {
+    SAM_EFFECT_WRITE = 1, /* the saved text of the file `tag` is to be written (Twrite): sam_server_saved */
+    SAM_EFFECT_HEAR = 2,  /* the terminal's program said a message of `len` bytes: sam_server_heard */
+
+    SAM_EFFECT_WIDTH = 0x7FFFFFFF /* never handed out: it keeps the type at 32 bits under any compiler's options */
+};
+typedef enum sam_effect_kind sam_effect_kind;
+
+/* What the program is asked to do. What a kind doesn't say is 0. */
+struct sam_effect {
+    size_t len; /* how many bytes the message has */
+    sam_effect_kind kind;
+    uint16_t tag; /* the file */
+};
+typedef struct sam_effect sam_effect;
+
+/* ---- A durable server: making and freeing ---- */
+
+/* Makes the server of a session without files (but the command file), before its first connection. The id is the session's name, as for
+ * sam_link_new. Refused, in this order: SAM_NO_HANDLE if the handle is NULL; SAM_MADE if it is made already; SAM_NO_MEMORY. The handle is
+ * then as it was. */
+SAM_MUST_USE sam_status sam_server_new(sam_server *server, const uint8_t id[SAM_LINK_ID_BYTES]);
+
+/* Frees a server, with all that it keeps, and leaves the handle empty. Refused: SAM_NO_HANDLE if the handle is NULL or empty. */
+sam_status sam_server_free(sam_server *server);
+
+/* ---- A durable server: what it takes ---- */
+
+/* Adds a file as sam_host_add_file does, and hands out its tag. Its own refusals: SAM_NOT_TEXT, SAM_ADD_TOO_LONG, SAM_ADD_NO_TAG. After
+ * SAM_UNFINISHED the file has joined under the next tag, which is not handed out. */
+SAM_MUST_USE sam_status sam_server_add_file(sam_server *server, const uint8_t *name, size_t name_len, const uint8_t *text, size_t text_len,
+                                            uint16_t *tag);
+
+/* Takes a connection by its first 42 bytes, the terminal's hello: the connection before is over. The connection has the number that
+ * sam_link_read_hello hands out. Before all but SAM_NO_HANDLE it may return what sam_link_read_hello refuses, and SAM_NONE for fewer than 42
+ * bytes. Its own refusals are those of sam_link_answer: SAM_LINK_BAD_HELLO to SAM_LINK_WRONG_COUNT. sam_link_write_refusal writes what the
+ * terminal is told then. */
+SAM_MUST_USE sam_status sam_server_accept(sam_server *server, const uint8_t *bytes, size_t len);
+
+/* Takes bytes that came on a connection after the hello, in pieces of any length, all or none, and answers each message that is whole. Its
+ * own refusals are those of sam_link_feed but SAM_NO_MEMORY; the last three of them end the connection. */
+SAM_MUST_USE sam_status sam_server_receive(sam_server *server, uint64_t attempt, const uint8_t *bytes, size_t len);
+
+/* Ends a connection, because it broke or because the program gives it up. Nothing changes if it isn't the newest. It makes no record. */
+SAM_MUST_USE sam_status sam_server_broken(sam_server *server, uint64_t attempt);
+
+/* Puts a message for the terminal's program: a note of the link, behind all bytes that were put. Its own refusals: SAM_LINK_TOO_LONG for
+ * more than 4,096 bytes; SAM_COUNT_FULL. */
+SAM_MUST_USE sam_status sam_server_say(sam_server *server, const uint8_t *bytes, size_t len);
+
+/* Marks a file as dirty as sam_host_mark_dirty does: after a write that failed, before sam_server_effect_done. Its own refusals: SAM_NONE if
+ * the tag has no file; SAM_MARK_COMMAND_FILE; SAM_MARK_NOT_ANNOUNCED. */
+SAM_MUST_USE sam_status sam_server_mark_dirty(sam_server *server, uint16_t tag);
+
+/* Asks the terminal to acknowledge now, as sam_link_ask does. Its own refusal: SAM_COUNT_FULL. */
+SAM_MUST_USE sam_status sam_server_ask(sam_server *server);
+
+/* Acknowledges all bytes that have come, as sam_link_acknowledge does. Its own refusal: SAM_COUNT_FULL. */
+SAM_MUST_USE sam_status sam_server_acknowledge(sam_server *server);
+
+/* Goes on with what was taken last, after SAM_UNFINISHED; does nothing if no work is left. Refused, in this order: why the server has
+ * stopped, at this call or before; SAM_UNFINISHED if memory is still short. */
+SAM_MUST_USE sam_status sam_server_go_on(sam_server *server);
+
+/* ---- A durable server: records ---- */
+
+/* Hands out the number of bytes of the record that sam_server_next_record hands out next. Returns SAM_NONE if there is none. */
+SAM_MUST_USE sam_status sam_server_record_len(sam_server *server, size_t *len);
+
+/* Hands out the oldest record that was not handed out: copies its bytes, all of them or none, and hands out their number. The record of a
+ * piece has 9 bytes more than the piece, no record of a message more than 4,097, and that of a file 9 more than its name and its text.
+ * Refused, in this order, and nothing is changed then: SAM_NONE if there is none; SAM_NO_ROOM if it doesn't fit. */
+SAM_MUST_USE sam_status sam_server_next_record(sam_server *server, uint8_t *into, size_t room, size_t *len);
+
+/* Takes so many more of the records that were handed out as durable, the oldest first. */
+SAM_MUST_USE sam_status sam_server_durable(sam_server *server, size_t count);
+
+/* ---- A durable server: bytes out ---- */
+
+/* Moves the next bytes for a connection into the buffer, as many as durable records decide and fit, and hands out their number: first the
+ * hello, and then the stream from the place where this connection goes on. Refused: SAM_LINK_NOT_OPEN if the connection is over or isn't the
+ * newest. */
+SAM_MUST_USE sam_status sam_server_take_out(sam_server *server, uint64_t attempt, uint8_t *into, size_t room, size_t *count);
+
+/* ---- A durable server: effects ---- */
+
+/* Hands out the effect that is to be done now, the same until sam_server_effect_done. What the terminal sent behind it waits for that: do it
+ * soon. After a crash an effect is handed out again, unless the record of its end is durable. Returns SAM_NONE if there is none, or while the
+ * record that has it is not durable. */
+SAM_MUST_USE sam_status sam_server_next_effect(sam_server *server, sam_effect *effect);
+
+/* Copies the message that is to be heard now, all of it or nothing, and hands out its length in bytes. A room of 4,096 bytes is always
+ * enough. Refused, in this order: SAM_NONE if sam_server_next_effect hands out no message; SAM_NO_ROOM if it doesn't fit. */
+SAM_MUST_USE sam_status sam_server_heard(sam_server *server, uint8_t *into, size_t room, size_t *len);
+
+/* Ends the effect, which is done. `ending` is a number of the program's own for how it ended, which stands in the record. Its own refusal:
+ * SAM_NONE if sam_server_next_effect hands out none. */
+SAM_MUST_USE sam_status sam_server_effect_done(sam_server *server, uint64_t ending);
+
+/* ---- A durable server: readers of its host ---- */
+
+/* Hands out whether the session is over: the terminal has sent Texit, or a command line was `q`. */
+SAM_MUST_USE sam_status sam_server_is_done(sam_server *server, bool *done);
+
+/* Hands out the number of tags that were given, the command file's 0 included: the greatest tag is one less. */
+SAM_MUST_USE sam_status sam_server_tags(sam_server *server, size_t *count);
+
+/* Hands out whether the tag has a file now. The tag of a closed file has none. */
+SAM_MUST_USE sam_status sam_server_has_file(sam_server *server, uint16_t tag, bool *has);
+
+/* Copies the name of a file, as sam_host_name does. Returns SAM_NONE if the tag has no file. */
+SAM_MUST_USE sam_status sam_server_name(sam_server *server, uint16_t tag, uint8_t *into, size_t room, size_t *len);
+
+/* Hands out the length of a file's text in runes. Returns SAM_NONE if the tag has no file. */
+SAM_MUST_USE sam_status sam_server_len(sam_server *server, uint16_t tag, uint32_t *runes);
+
+/* Hands out whether a file was edited since it was made or written. Returns SAM_NONE if the tag has no file. */
+SAM_MUST_USE sam_status sam_server_is_dirty(sam_server *server, uint16_t tag, bool *dirty);
+
+/* Copies the text of a file from the place `place` on, as sam_host_text does. Returns SAM_NONE if the tag has no file. */
+SAM_MUST_USE sam_status sam_server_text(sam_server *server, uint16_t tag, uint32_t place, uint8_t *into, size_t room, size_t *bytes,
+                                        uint32_t *runes);
+
+/* Hands out the length in runes of the text that a file had when the terminal had it written last. Returns SAM_NONE if the tag has no file,
+ * or if the file was never written. */
+SAM_MUST_USE sam_status sam_server_saved_len(sam_server *server, uint16_t tag, uint32_t *runes);
+
+/* Copies the text that a file had when the terminal had it written last, from the place `place` on, as sam_host_text does. Returns SAM_NONE
+ * if the tag has no file, or if the file was never written. */
+SAM_MUST_USE sam_status sam_server_saved(sam_server *server, uint16_t tag, uint32_t place, uint8_t *into, size_t room, size_t *bytes,
+                                         uint32_t *runes);
+
+/* ---- A durable server: made again of its records ---- */
+
+/* Begins with the server of a session that has taken nothing. The id is that of the session whose records they are. Refused, in this order:
+ * SAM_NO_HANDLE if the handle is NULL; SAM_MADE if it is made already; SAM_NO_MEMORY. The handle is then as it was. */
+SAM_MUST_USE sam_status sam_recovery_new(sam_recovery *recovery, const uint8_t id[SAM_LINK_ID_BYTES]);
+
+/* Frees a recovery, and leaves the handle empty. Refused: SAM_NO_HANDLE if the handle is NULL or empty. */
+sam_status sam_recovery_free(sam_recovery *recovery);
+
+/* Takes the next record of the journal again: its body, as sam_server_next_record handed it out. Refused, in this order, and the handle is
+ * then empty, so begin anew: SAM_SERVER_NO_RECORD; then SAM_SERVER_NOT_TAKEN or SAM_NO_MEMORY, whichever shows first. */
+SAM_MUST_USE sam_status sam_recovery_take(sam_recovery *recovery, const uint8_t *body, size_t len);
+
+/* Makes the server that goes on behind all these records, and leaves the recovery's handle empty. The server's connection is over, and its
+ * records are durable: an effect that waits is to be done now. Refused, in this order, and both handles are then as they were: SAM_NO_HANDLE
+ * if one of them is NULL, or the recovery's is empty; SAM_MADE if the server's is made already; SAM_NO_MEMORY. */
+SAM_MUST_USE sam_status sam_recovery_finish(sam_recovery *recovery, sam_server *server);
 
 /* ==== Scripts ==== */
 

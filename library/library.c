@@ -15,8 +15,8 @@ bool sam_is_stop(sam_status status)
     uint32_t number = (uint32_t)status;
     bool is_of_stream = SAM_STREAM < number && number < SAM_TRUNCATED;
 
-    return is_of_stream || (SAM_HOST_REFUSED < number && number <= SAM_HOST_COMMAND_FILE)
-        || (SAM_TERM_REFUSED < number && number <= SAM_TERM_COUNT_FULL);
+    return is_of_stream || (SAM_HOST_REFUSED < number && number <= SAM_HOST_COMMAND_FILE) ||
+           (SAM_TERM_REFUSED < number && number <= SAM_TERM_COUNT_FULL) || number == SAM_SERVER_COUNT_FULL;
 }
 
 #define TEXT(status, sentence)                                                                                                             \
@@ -101,6 +101,9 @@ const char *sam_status_text(sam_status status)
         TEXT(SAM_JOURNAL_DAMAGED, "the journal is damaged: its whole records end before what was durable");
         TEXT(SAM_JOURNAL_TORN, "no whole record of this number stands at this place of the journal");
         TEXT(SAM_JOURNAL_TOO_LONG, "the body of the record has 2^32 bytes or more");
+        TEXT(SAM_SERVER_COUNT_FULL, "a stream of the durable server would have 2^64 bytes, and it has stopped");
+        TEXT(SAM_SERVER_NO_RECORD, "the bytes are those of no record of a durable server");
+        TEXT(SAM_SERVER_NOT_TAKEN, "the records before it lead to no server that takes this record");
     }
     return "unknown status";
 }

@@ -76,6 +76,9 @@ export const Status = Object.freeze({
   JOURNAL_DAMAGED: 261,
   JOURNAL_TORN: 262,
   JOURNAL_TOO_LONG: 263,
+  SERVER_COUNT_FULL: 289,
+  SERVER_NO_RECORD: 290,
+  SERVER_NOT_TAKEN: 291,
 });
 
 /** The kinds of messages and frames (enum sam_kind of sulgrevad.h); docs/reference/PROTOCOL.md says what each means. */

@@ -134,6 +134,9 @@ export declare const Status: {
   readonly JOURNAL_DAMAGED: 261;
   readonly JOURNAL_TORN: 262;
   readonly JOURNAL_TOO_LONG: 263;
+  readonly SERVER_COUNT_FULL: 289;
+  readonly SERVER_NO_RECORD: 290;
+  readonly SERVER_NOT_TAKEN: 291;
 };
 
 /** Returns the name of a status and a sentence about it, or "unknown status" for any other number. */

@@ -30,6 +30,9 @@ one that also says when to connect, to ask and to give up. docs/howto/RECONNECTI
 over asyncio. The notes that samhost and its front ends exchange are read by `read_note` and written by `write_note`:
 docs/reference/SESSION.md.
 
+A `DurableServer` is a host with its end of a link, which `recover` makes again after a crash, of the records that it made of all that it
+took.
+
 `replay` runs a script of docs/reference/SCRIPTS.md over a host and a terminal of its own.
 
 Errors: each family of status codes has an exception class below `SamError`, whose `code` is the `Status`; `status_text` explains one. A
@@ -66,6 +69,7 @@ from sulgrevad.note import Note, NoteCode, NoteKind, read_note, write_note
 from sulgrevad.overlay import Dropped, EventKind, Overlay, Put, Splice, SpliceKind
 from sulgrevad.results import Change, FileState, HostDid, NextFrame, Refusal, TerminalDid, TerminalState
 from sulgrevad.scripts import replay
+from sulgrevad.server import DurableServer, Effect, EffectKind, Recovery, recover
 from sulgrevad.status import (
     AddRefused,
     CountFull,
@@ -81,6 +85,7 @@ from sulgrevad.status import (
     NotText,
     SamError,
     ScriptFault,
+    ServerFault,
     Status,
     Step,
     StreamFault,
@@ -97,10 +102,11 @@ from sulgrevad.terminal import Terminal
 __version__ = "0.1.0"
 
 __all__ = [
-    "HELLO_BYTES", "MOST_NOTE", "AddRefused", "Change", "Client", "ClientEvent", "ClientEventKind", "CountFull", "Dropped", "Edit",
-    "EditRefused", "Edits", "EventKind", "FileState", "HandleFault", "Hello", "Host", "HostDid", "HostRefused", "Kind", "Line",
-    "LineDetails", "Link", "LinkFault", "MarkRefused", "Missing", "NextFrame", "NoMemory", "NotText", "Note", "NoteCode", "NoteFault",
-    "NoteKind", "Overlay", "Pieces", "Put", "Refusal", "SamError", "ScriptFault", "Splice", "SpliceKind", "Status", "Step",
-    "StreamFault", "Terminal", "TerminalDid", "TerminalRefused", "TerminalState", "Tick", "TooMany", "Unfinished", "Waiting", "What",
-    "error_of", "library_version", "read_hello", "read_note", "replay", "status_text", "write_note", "write_refusal",
+    "HELLO_BYTES", "MOST_NOTE", "AddRefused", "Change", "Client", "ClientEvent", "ClientEventKind", "CountFull", "Dropped",
+    "DurableServer", "Edit", "EditRefused", "Edits", "Effect", "EffectKind", "EventKind", "FileState", "HandleFault", "Hello",
+    "Host", "HostDid", "HostRefused", "Kind", "Line", "LineDetails", "Link", "LinkFault", "MarkRefused", "Missing", "NextFrame",
+    "NoMemory", "NotText", "Note", "NoteCode", "NoteFault", "NoteKind", "Overlay", "Pieces", "Put", "Recovery", "Refusal",
+    "SamError", "ScriptFault", "ServerFault", "Splice", "SpliceKind", "Status", "Step", "StreamFault", "Terminal",
+    "TerminalDid", "TerminalRefused", "TerminalState", "Tick", "TooMany", "Unfinished", "Waiting", "What", "error_of",
+    "library_version", "read_hello", "read_note", "recover", "replay", "status_text", "write_note", "write_refusal",
 ]  # fmt: skip

@@ -95,8 +95,14 @@ class Record(ctypes.Structure):
     _fields_ = [("durable", c_uint64), ("body", c_size_t), ("len", c_size_t), ("next", c_size_t)]
 
 
+class CEffect(ctypes.Structure):
+    """sam_effect: what a durable server asks its program to do."""
+
+    _fields_ = [("len", c_size_t), ("kind", c_uint32), ("tag", c_uint16)]
+
+
 class Handle(ctypes.Structure):
-    """sam_host, sam_term, sam_overlay, sam_link, sam_line and sam_client; empty if all bytes are zero."""
+    """sam_host and all other handles; empty if all bytes are zero."""
 
     _fields_ = [("at", c_void_p), ("made", c_uint64)]
 
@@ -180,6 +186,15 @@ SIGNATURES: Dict[str, Tuple[Any, ...]] = {
     "client_waiting": (c_uint16, _U32), "client_next_waiting": (c_uint16, _TAG), "client_len": (c_uint16, _U32),
     "client_first_gap": (c_uint16, c_uint32, _U32), "client_read": (c_uint16, c_uint32, *_RUNES, _U32),
     "client_text": (c_uint16, *_TEXT_FROM),
+    "server_new": (c_char_p,), "server_free": (), "server_add_file": (*_BYTES, *_BYTES, _TAG), "server_accept": _BYTES,
+    "server_receive": (c_uint64, *_BYTES), "server_broken": (c_uint64,), "server_say": _BYTES, "server_mark_dirty": (c_uint16,),
+    "server_ask": (), "server_acknowledge": (), "server_go_on": (), "server_record_len": (_SIZE,),
+    "server_next_record": (*_BUFFER, _SIZE), "server_durable": (c_size_t,), "server_take_out": (c_uint64, *_BUFFER, _SIZE),
+    "server_next_effect": (POINTER(CEffect),), "server_heard": (*_BUFFER, _SIZE), "server_effect_done": (c_uint64,),
+    "server_is_done": (_BOOL,), "server_tags": (_SIZE,), "server_has_file": (c_uint16, _BOOL),
+    "server_name": (c_uint16, *_BUFFER, _SIZE), "server_len": (c_uint16, _U32), "server_is_dirty": (c_uint16, _BOOL),
+    "server_text": (c_uint16, *_TEXT_FROM), "server_saved_len": (c_uint16, _U32), "server_saved": (c_uint16, *_TEXT_FROM),
+    "recovery_new": (c_char_p,), "recovery_free": (), "recovery_take": _BYTES, "recovery_finish": (POINTER(Handle),),
 }  # fmt: skip
 
 # All arguments, and the result, of each call that takes no handle.

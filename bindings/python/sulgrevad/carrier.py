@@ -1,4 +1,4 @@
-"""What a link, a line and a client share: bytes and notes that are moved in and out."""
+"""What a link, a line, a client and a durable server share: bytes and notes that are moved in and out."""
 import ctypes
 from collections import deque
 from ctypes import byref, c_size_t
@@ -26,27 +26,11 @@ def id_of(id: Bytes) -> bytes:
     return name
 
 
-class Outward(Held):
-    """What hands out bytes for its connections. Nothing is lost where an exception breaks in."""
-
-    def __init__(self, *arguments: Any) -> None:
-        if not hasattr(self, "_out"):
-            # The bytes that were moved out of the library when an exception broke in before they were returned: a buffer, how much of it
-            # was returned, and how much it has.
-            self._out: Deque[Tuple[Any, int, c_size_t]] = deque()
-        super().__init__(*arguments)
-
-    def free(self) -> None:
-        """Frees it, with all the bytes that it keeps. Any later call but this one and `close` raises HandleFault."""
-        self._out.clear()
-        super().free()
-
-    def close(self) -> None:
-        """Frees it, as `free` does."""
-        self.free()
+class Mover(Held):
+    """What hands out bytes once. Nothing is lost where an exception breaks in."""
 
     def _moved(self, left: Deque[Tuple[Any, int, c_size_t]], room: int, name: str, *arguments: Any) -> Optional[bytes]:
-        """Returns the next bytes that a call moves out, at most `room`; None if the call answers SAMNONE. If an exception breaks in, the
+        """Returns the next bytes that a call moves out, at most `room`; None if the call answers SAM_NONE. If an exception breaks in, the
         next call has them."""
         moved = left.popleft() if left else (ctypes.create_string_buffer(room), 0, c_size_t(NOT_YET))
         into, start, count = moved
@@ -67,6 +51,26 @@ class Outward(Held):
         if rest:
             left.appendleft(rest)
         return taken
+
+
+class Outward(Mover):
+    """What hands out bytes for its connections."""
+
+    def __init__(self, *arguments: Any) -> None:
+        if not hasattr(self, "_out"):
+            # The bytes that were moved out of the library when an exception broke in before they were returned: a buffer, how much of it
+            # was returned, and how much it has.
+            self._out: Deque[Tuple[Any, int, c_size_t]] = deque()
+        super().__init__(*arguments)
+
+    def free(self) -> None:
+        """Frees it, with all the bytes that it keeps. Any later call but this one and `close` raises HandleFault."""
+        self._out.clear()
+        super().free()
+
+    def close(self) -> None:
+        """Frees it, as `free` does."""
+        self.free()
 
     def acknowledge(self) -> None:
         """Acknowledges all bytes that have come. The end does so by itself when it is asked, and after each 16,384 bytes. Raises, in this

@@ -9,6 +9,7 @@ from sulgrevad.carrier import MOST_NOTE, Bytes, id_of
 from sulgrevad.line import Clocked
 from sulgrevad.overlay import EventKind, Shown, Splice, did_of, event_of
 from sulgrevad.results import TerminalDid
+from sulgrevad.sides import Stopping
 
 
 class ClientEventKind(enum.IntEnum):
@@ -33,7 +34,7 @@ class ClientEvent(NamedTuple):
 KINDS = tuple(ClientEventKind)  # by their numbers
 
 
-class Client(Clocked, Shown):
+class Client(Clocked, Shown, Stopping):
     """The user's side of a session in one handle, for a front end whose user never waits, over connections that may break: an overlay, and
     its line to the host. It moves all between the two by itself. It opens no connection and has no clock: calls take the time, in
     milliseconds of any clock that doesn't jump, as of `time.monotonic`.

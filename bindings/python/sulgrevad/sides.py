@@ -50,7 +50,7 @@ def least(most: Optional[int], there: int) -> int:
 
 
 class Held:
-    """A handle and its calls, which host, terminal, overlay, link, line and client share."""
+    """A handle and its calls."""
 
     _prefix = ""
 
@@ -123,13 +123,7 @@ class Held:
 
 
 class Texts(Held):
-    """The reading of texts, which host, terminal, overlay and client share."""
-
-    def _range(self, name: str, tag: int) -> Tuple[int, int]:
-        """Makes a call that hands out two places, and returns them."""
-        start, end = c_uint32(), c_uint32()
-        self._call(name, tag, byref(start), byref(end))
-        return start.value, end.value
+    """The texts that can be read of host, terminal, overlay, client and durable server."""
 
     def _short_text(self, name: str, room: int, *arguments: Any) -> str:
         """Makes a call that fills a buffer which is always great enough, and returns its text."""
@@ -152,6 +146,10 @@ class Texts(Held):
             if not piece or left == 0:
                 return "".join(pieces)
 
+
+class Stopping(Held):
+    """What may stop because of the other side's stream: host, terminal, overlay and client."""
+
     @property
     def fault_place(self) -> Optional[int]:
         """Returns the number of bytes of the other side's stream before the frame that is wrong, if this side has stopped by StreamFault;
@@ -159,7 +157,7 @@ class Texts(Held):
         return self._number_if_any("fault_place", c_uint64)
 
 
-class Streams(Texts):
+class Streams(Stopping, Texts):
     """The pending bytes of host, terminal and overlay."""
 
     def __init__(self) -> None:
@@ -172,6 +170,12 @@ class Streams(Texts):
         """Frees it, with its pending bytes. Any later call but this one raises HandleFault."""
         self._left.clear()
         super().free()
+
+    def _range(self, name: str, tag: int) -> Tuple[int, int]:
+        """Makes a call that hands out two places, and returns them."""
+        start, end = c_uint32(), c_uint32()
+        self._call(name, tag, byref(start), byref(end))
+        return start.value, end.value
 
     def bring(self, data: Union[bytes, bytearray, memoryview]) -> None:
         """Takes bytes of the other side, in pieces of any length, but goes no further: `step` does the work. Raises, in this order, and the

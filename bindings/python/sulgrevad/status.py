@@ -82,6 +82,9 @@ class Status(enum.IntEnum):
     JOURNAL_DAMAGED = 261
     JOURNAL_TORN = 262
     JOURNAL_TOO_LONG = 263
+    SERVER_COUNT_FULL = 289
+    SERVER_NO_RECORD = 290
+    SERVER_NOT_TAKEN = 291
 
 
 class Kind(enum.IntEnum):
@@ -212,7 +215,7 @@ class TooMany(SamError):
 
 
 class HandleFault(SamError, ValueError):
-    """The host, terminal, overlay, link or line was freed (SAM_NO_HANDLE), or was made twice (SAM_MADE)."""
+    """The object, as a host or a line, was freed (SAM_NO_HANDLE), or was made twice (SAM_MADE)."""
 
 
 class NotText(SamError, ValueError):
@@ -257,6 +260,11 @@ class NoteFault(SamError, ValueError):
     """Bytes are no message of a session, or a message can't be written (SAM_NOTE_..)."""
 
 
+class ServerFault(SamError, ValueError):
+    """A record is not taken again (SAM_SERVER_NO_RECORD, SAM_SERVER_NOT_TAKEN), or a durable server has stopped because a count is full
+    (SAM_SERVER_COUNT_FULL)."""
+
+
 class ScriptFault(SamError, ValueError):
     """A script can't be replayed (SAM_SCRIPT_..). `line` is its first wrong line, counted from 1, or if none is wrong the line at
     which nothing is there to take; None if a count is full."""
@@ -285,6 +293,7 @@ FAMILIES = (
     (range(160, 192), ScriptFault),
     (range(192, 224), LinkFault),
     (range(224, 256), NoteFault),
+    (range(288, 320), ServerFault),
 )
 
 

@@ -25,7 +25,7 @@ use Rattle.sam_c.specs.contracts.handle.HeldOverlay as HeldOverlay
 use Rattle.sam_c.specs.contracts.handle.HeldTerm as HeldTerm
 use Rattle.sam_c.specs.contracts.parts.Parts as Parts
 
-abbrev boxed : (end : RattleType) → Laws end → Bx
+abbrev pub boxed : (end : RattleType) → Laws end → Bx
 boxed end laws = record { row = end; laws = laws; al = record { row = Heap.the_row; laws = heap.the_row_laws; g = ghosts; d = dict; drops = impl [] tnil dnil } }
 
 abbrev pub HostBox : Bx

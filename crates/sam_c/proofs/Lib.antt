@@ -11,3 +11,5 @@ pub mod Measuring
 pub mod LinkIds
 pub mod OverlayLaws
 pub mod DropLaws
+pub mod ServerEnds
+pub mod ServerLaws

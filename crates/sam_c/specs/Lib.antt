@@ -20,3 +20,6 @@ pub mod OverlayStatus
 pub mod Overlays
 pub mod ClientStatus
 pub mod Clients
+pub mod ServerHandles
+pub mod ServerStatus
+pub mod Servers

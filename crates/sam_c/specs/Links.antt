@@ -89,7 +89,7 @@ LinkCalled (Some e) take_over old status new after =
     × (status ≡ call_status result) × (new ≡ handed_or old result)
 
 -- what is done with the hello that was read, or why there is none and the end is as before
-abbrev pub WithHello : Result (Option Hello) Refusal → End → ℕ → End → (Hello → Type 0) → Type 0
+abbrev pub WithHello : {E : Type 0} → Result (Option Hello) Refusal → E → ℕ → E → (Hello → Type 0) → Type 0
 WithHello (Ok (Some h)) e status g Does = Does h
 WithHello (Ok None) e status g Does = (status ≡ nothing) × (g ≡ e)
 WithHello (Err why) e status g Does = (status ≡ link_refusal why) × (g ≡ e)

@@ -9,9 +9,12 @@ ghost use Rattle.sam_c.specs.Hosts.{dot_of, file_of, saved_of};
 ghost use Rattle.sam_endpoint.specs.HostEndpoints.{fault_place};
 
 use crate::handle::{SamHost, with_end};
-use crate::status::{NO_HANDLE, NONE, OK};
-use crate::telling::{tell, tell_some, tell_two};
-use crate::utf8::{count, countable, runes_from, tell_name, tell_text};
+use crate::host_files::{
+    tell_file_len, tell_file_name, tell_file_text, tell_is_dirty, tell_saved, tell_saved_len,
+};
+use crate::status::{NO_HANDLE, OK};
+use crate::telling::{tell_some, tell_two};
+use crate::utf8::{count, countable, runes_from, tell_text};
 use std::alloc::Global;
 
 /// Hands out whether the session is over: the terminal has sent Texit, or a command line was `q`.
@@ -90,10 +93,7 @@ pub extern "C" fn sam_host_name(
     ensures kept { host.new.held.end ≡ host.old.held.end }
 {
     with_end!(host alloc end {
-        match end.host().files().name(tag) {
-            Some(name) => tell_name(name.as_slice(), into, len),
-            None => NONE,
-        }
+        tell_file_name(end.host(), tag, into, len)
     })
 }
 
@@ -104,10 +104,7 @@ pub extern "C" fn sam_host_len(host: &mut SamHost, tag: u16, runes: &mut u32, al
     ensures kept { host.new.held.end ≡ host.old.held.end }
 {
     with_end!(host alloc end {
-        match end.host().files().text(tag) {
-            Some(text) => tell(text.len(), runes),
-            None => NONE,
-        }
+        tell_file_len(end.host(), tag, runes)
     })
 }
 
@@ -123,11 +120,7 @@ pub extern "C" fn sam_host_is_dirty(
     ensures kept { host.new.held.end ≡ host.old.held.end }
 {
     with_end!(host alloc end {
-        if end.host().files().has(tag) {
-            tell(end.host().files().is_dirty(tag), dirty)
-        } else {
-            NONE
-        }
+        tell_is_dirty(end.host(), tag, dirty)
     })
 }
 
@@ -165,15 +158,7 @@ pub extern "C" fn sam_host_text(
     ensures kept { host.new.held.end ≡ host.old.held.end }
 {
     with_end!(host alloc end {
-        match end.host().files().text(tag) {
-            Some(text) => tell_text(
-                runes_from(text.slice(0, text.len()), place),
-                into,
-                bytes,
-                runes,
-            ),
-            None => NONE,
-        }
+        tell_file_text(end.host(), tag, place, into, bytes, runes)
     })
 }
 
@@ -190,10 +175,7 @@ pub extern "C" fn sam_host_saved_len(
     ensures kept { host.new.held.end ≡ host.old.held.end }
 {
     with_end!(host alloc end {
-        match end.host().files().saved(tag) {
-            Some(saved) => tell(count(countable(saved.as_slice())), runes),
-            None => NONE,
-        }
+        tell_saved_len(end.host(), tag, runes)
     })
 }
 
@@ -214,10 +196,7 @@ pub extern "C" fn sam_host_saved(
     ensures kept { host.new.held.end ≡ host.old.held.end }
 {
     with_end!(host alloc end {
-        match end.host().files().saved(tag) {
-            Some(saved) => tell_text(runes_from(countable(saved.as_slice()), place), into, bytes, runes),
-            None => NONE,
-        }
+        tell_saved(end.host(), tag, place, into, bytes, runes)
     })
 }
 

@@ -1,6 +1,6 @@
-//! The host, the terminal, an overlay, a client, a link, a line and messages for C, and the replay of scripts. Each export does what a call of a
-//! lower crate does, and states its clauses again over the value that the handle holds, or over the bytes that it is given. What a C
-//! program owes, and what each call does, stands in include/sulgrevad.h.
+//! The host, the terminal, an overlay, a client, a link, a line, a durable server and messages for C, and the replay of scripts. Each
+//! export does what a call of a lower crate does, and states its clauses again over the value that the handle holds, or over the bytes that
+//! it is given. What a C program owes, and what each call does, stands in include/sulgrevad.h.
 #![tactic(auto)]
 
 mod client_calls;
@@ -10,6 +10,7 @@ mod client_readers;
 mod client_status;
 mod handle;
 mod host_calls;
+mod host_files;
 mod host_readers;
 mod journal_calls;
 mod line_calls;
@@ -26,7 +27,14 @@ mod overlay_events;
 mod overlay_readers;
 mod overlay_status;
 mod parts;
+mod recovery_calls;
 mod scripts;
+mod server_calls;
+mod server_effects;
+mod server_handle;
+mod server_readers;
+mod server_records;
+mod server_status;
 mod snapshots;
 mod status;
 mod steps;
@@ -45,5 +53,7 @@ pub use link_calls::{SamLinkHello, SamLinkId};
 pub use note_calls::SamNote;
 pub use overlay_calls::SamSplice;
 pub use overlay_events::SamEvent;
+pub use server_effects::SamEffect;
+pub use server_handle::{SamRecovery, SamServer};
 pub use snapshots::{SamTermFile, SamTermState};
 pub use steps::SamDid;

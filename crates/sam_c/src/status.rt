@@ -112,6 +112,16 @@ fn host_refusal(why: HostFault) -> u32
     HOST_REFUSED + why as u32
 }
 
+/// Returns the number of why a host has stopped.
+pub(crate) fn host_stop_status(why: HostStop) -> u32
+    ensures { result ≡ host_stop_status why }
+{
+    match why {
+        HostStop::Stream(why) => stream_status(why),
+        HostStop::Refused(why) => host_refusal(why),
+    }
+}
+
 /// Returns the number of why the terminal refused a frame.
 fn term_refusal(why: TermFault) -> u32
     ensures { result ≡ term_refusal why }
@@ -155,8 +165,7 @@ pub(crate) fn host_status(came: Result<(), EndpointFault<HostStop>>) -> u32
         Err(EndpointFault::OutOfMemory) => NO_MEMORY,
         Err(EndpointFault::Unfinished) => UNFINISHED,
         Err(EndpointFault::CountFull) => COUNT_FULL,
-        Err(EndpointFault::Stopped(HostStop::Stream(why))) => stream_status(why),
-        Err(EndpointFault::Stopped(HostStop::Refused(why))) => host_refusal(why),
+        Err(EndpointFault::Stopped(why)) => host_stop_status(why),
     }
 }
 
@@ -182,8 +191,7 @@ pub(crate) fn host_bring_status(came: Result<(), BringFault<HostStop>>) -> u32
         Err(BringFault::Waiting) => WAITING,
         Err(BringFault::CountFull) => COUNT_FULL,
         Err(BringFault::OutOfMemory) => NO_MEMORY,
-        Err(BringFault::Stopped(HostStop::Stream(why))) => stream_status(why),
-        Err(BringFault::Stopped(HostStop::Refused(why))) => host_refusal(why),
+        Err(BringFault::Stopped(why)) => host_stop_status(why),
     }
 }
 
@@ -208,8 +216,7 @@ pub(crate) fn host_finish_status(came: Result<(), FinishFault<HostStop>>) -> u32
         Ok(()) => OK,
         Err(FinishFault::Unfinished) => UNFINISHED,
         Err(FinishFault::Truncated) => truncated(),
-        Err(FinishFault::Stopped(HostStop::Stream(why))) => stream_status(why),
-        Err(FinishFault::Stopped(HostStop::Refused(why))) => host_refusal(why),
+        Err(FinishFault::Stopped(why)) => host_stop_status(why),
     }
 }
 

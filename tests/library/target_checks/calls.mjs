@@ -9,10 +9,10 @@ const [callsFile, native, scriptsFile, countWord, seedWord] = process.argv.slice
 const CALLS = JSON.parse(readFileSync(callsFile, "utf8"));
 const SCRIPTS = JSON.parse(readFileSync(scriptsFile, "utf8")).map((text) => new TextEncoder().encode(text));
 const CODE = Object.fromEntries(CALLS.map(([name], code) => [name, code]));
-const RESET = 255;
-const REFUSE = 254;
-const CARRY = 253;
-const ASKED = 252;
+const RESET = 65535; // orders that are no call of a number
+const REFUSE = 65534;
+const CARRY = 65533;
+const ASKED = 65532;
 const FILLER = 0xa5;
 const TRIES = 3;
 const NO_MEMORY = 1;
@@ -97,13 +97,14 @@ function note(told) {
 // ---- The module's side
 
 const SPACE = library.malloc(BigInt(SPACE_SIZE));
-const HANDLES_SIZE = 192;
+const HANDLES_SIZE = 256;
 const HANDLES = library.malloc(BigInt(HANDLES_SIZE));
-const HANDLE_OF = { host: 0, term: 32, link: 64, line: 96, overlay: 128, client: 160 }; // where the two handles of a kind stand
+// Where the two handles of a kind stand.
+const HANDLE_OF = { host: 0, term: 32, link: 64, line: 96, overlay: 128, client: 160, server: 192, recovery: 224 };
 // That are compared: of a struct all but what fills it up.
 const OUT_BYTES = {
   ...{ did: 39, state: 68, file: 25, note: 64, record: 32, frame: 28, details: 66 },
-  ...{ splice: 14, bytes16: 16, bytes24: 24, bytes42: 42 },
+  ...{ splice: 14, effect: 14, bytes16: 16, bytes24: 24, bytes42: 42 },
 };
 let baseline = 0n; // how many requests were made when the session began
 part(HANDLES, HANDLES_SIZE).fill(0);
@@ -133,7 +134,7 @@ function make(name, ...words) {
   const handedOut = [];
   let next = 0;
   note(`${name}(${words.map((word) => (word instanceof Uint8Array ? Buffer.from(word).toString() : word))})`);
-  orders.byte(CODE[name]);
+  orders.number(CODE[name]);
   free = SPACE;
   for (const kind of kinds) {
     if (kind.startsWith("out ")) {
@@ -175,7 +176,7 @@ function make(name, ...words) {
 /** Carries pending bytes to the other side, in both; one of them is changed if there are so many. */
 function carry(isUp, length, spoiled = NONE, value = 0) {
   note(`carry ${isUp ? "up" : "down"} ${length} ${spoiled} ${value}`);
-  orders.byte(CARRY);
+  orders.number(CARRY);
   orders.byte(isUp ? 1 : 0);
   orders.number(spoiled);
   orders.byte(value);
@@ -200,7 +201,7 @@ function carry(isUp, length, spoiled = NONE, value = 0) {
 
 function reset() {
   note("reset");
-  orders.byte(RESET);
+  orders.number(RESET);
   for (const which of [0, 1]) {
     library.sam_host_free(handle("host", which));
     library.sam_term_free(handle("term", which));
@@ -212,7 +213,7 @@ function reset() {
 }
 
 function refuse(first, count) {
-  orders.byte(REFUSE);
+  orders.number(REFUSE);
   orders.number(first);
   orders.number(count);
   library.heap_refuse(BigInt(first), BigInt(count));
@@ -220,7 +221,7 @@ function refuse(first, count) {
 
 function asked() {
   note("asked");
-  orders.byte(ASKED);
+  orders.number(ASKED);
   const number = Number(library.heap_asked() - baseline);
   answers.number(number);
   return number;
@@ -288,7 +289,7 @@ const RARE = new Set([
   ...["sam_term_exit", "sam_term_close", "sam_replay"],
 ]);
 const BAD_STREAMS = new Set(["sam_host_feed", "sam_term_feed"]);
-const ELSEWHERE = /^sam_(overlay|client|link|line|note)_/;
+const ELSEWHERE = /^sam_(overlay|client|link|line|note|server|recovery)_/;
 const COMMON = CALLS.map(([name]) => name).filter((name) => !RARE.has(name) && !BAD_STREAMS.has(name) && !ELSEWHERE.test(name));
 const LINK_CALLS = CALLS.map(([name]) => name).filter((name) => !RARE.has(name) && name.startsWith("sam_link_"));
 const LINE_CALLS = CALLS.map(([name]) => name).filter((name) => !RARE.has(name) && name.startsWith("sam_line_"));

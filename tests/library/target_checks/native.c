@@ -9,7 +9,7 @@
 #include <stdlib.h>
 #include <string.h>
 
-enum { RESET = 255, REFUSE = 254, CARRY = 253, ASKED = 252, FILLER = 0xA5, TRIES = 3 };
+enum { RESET = 65535, REFUSE = 65534, CARRY = 65533, ASKED = 65532, ENDED = 65531, FILLER = 0xA5, TRIES = 3 };
 
 struct lent {
     uint8_t *at;
@@ -28,6 +28,7 @@ union out {
     sam_splice splice;
     sam_put put;
     sam_client_event told;
+    sam_effect effect;
     uint8_t u8;
     uint16_t u16;
     uint32_t u32;
@@ -44,6 +45,8 @@ static sam_overlay overlays[2];
 static sam_link links[2]; /* both in use: an end of the terminal's side, and one of the host's */
 static sam_line lines[2]; /* both in use */
 static sam_client clients[2];
+static sam_server servers[2];
+static sam_recovery recoveries[2];
 static uint64_t asked, refused_from, refused_to;
 
 void *__real_malloc(size_t size);
@@ -143,6 +146,18 @@ static sam_client *client(void)
     return which == 2 ? NULL : &clients[which];
 }
 
+static sam_server *server(void)
+{
+    int which = getchar();
+    return which == 2 ? NULL : &servers[which];
+}
+
+static sam_recovery *recovery(void)
+{
+    int which = getchar();
+    return which == 2 ? NULL : &recoveries[which];
+}
+
 static struct lent lent(void)
 {
     struct lent bytes = {.length = number()};
@@ -199,9 +214,16 @@ static void carry(void)
     free(bytes.at);
 }
 
+/* The number of the next order. */
+static uint32_t order(void)
+{
+    uint32_t value;
+    return fread(&value, sizeof value, 1, stdin) == 1 ? value : ENDED;
+}
+
 int main(void)
 {
-    for (int code = getchar(); code != EOF; code = getchar()) {
+    for (uint32_t code = order(); code != ENDED; code = order()) {
         if (code == RESET) {
             reset();
         } else if (code == REFUSE) {
@@ -212,7 +234,7 @@ int main(void)
         } else if (code == ASKED) {
             put_number((uint32_t)asked);
         } else {
-            call(code);
+            call((int)code);
         }
     }
     return 0;

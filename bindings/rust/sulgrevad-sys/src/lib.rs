@@ -80,6 +80,9 @@ pub const SAM_JOURNAL_DAMAGED_HEAD: sam_status = 260;
 pub const SAM_JOURNAL_DAMAGED: sam_status = 261;
 pub const SAM_JOURNAL_TORN: sam_status = 262;
 pub const SAM_JOURNAL_TOO_LONG: sam_status = 263;
+pub const SAM_SERVER_COUNT_FULL: sam_status = 289;
+pub const SAM_SERVER_NO_RECORD: sam_status = 290;
+pub const SAM_SERVER_NOT_TAKEN: sam_status = 291;
 
 /// The sides of a link, and the states of a connection.
 pub const SAM_LINK_TERMINAL: u32 = 0;
@@ -293,6 +296,12 @@ pub const SAM_CLIENT_STEPPED: sam_client_event = 2;
 pub const SAM_CLIENT_REFUSED: sam_client_event = 3;
 pub const SAM_CLIENT_NOTE: sam_client_event = 4;
 
+/// The kind of an effect of a durable server: one of the numbers below.
+pub type sam_effect_kind = u32;
+
+pub const SAM_EFFECT_WRITE: sam_effect_kind = 1;
+pub const SAM_EFFECT_HEAR: sam_effect_kind = 2;
+
 /// The result of a step.
 #[derive(Clone, Copy, Debug, Default, PartialEq, Eq)]
 #[repr(C)]
@@ -391,6 +400,15 @@ pub struct sam_record {
     pub next: usize,
 }
 
+/// What a durable server asks its program to do.
+#[derive(Clone, Copy, Debug, Default, PartialEq, Eq)]
+#[repr(C)]
+pub struct sam_effect {
+    pub len: usize,
+    pub kind: sam_effect_kind,
+    pub tag: u16,
+}
+
 /// What `sam_line_describe` hands out: the state, the counts and the times of a line. Times are in milliseconds.
 #[derive(Clone, Copy, Debug, Default, PartialEq, Eq)]
 #[repr(C)]
@@ -470,6 +488,22 @@ pub struct sam_client {
     pub made: u64,
 }
 
+/// The handle of a durable server. It is empty if all its bytes are zero.
+#[derive(Debug)]
+#[repr(C)]
+pub struct sam_server {
+    pub at: *mut c_void,
+    pub made: u64,
+}
+
+/// The handle of a recovery. It is empty if all its bytes are zero.
+#[derive(Debug)]
+#[repr(C)]
+pub struct sam_recovery {
+    pub at: *mut c_void,
+    pub made: u64,
+}
+
 impl sam_host {
     /// An empty handle: SAM_HOST_INIT.
     pub const INIT: sam_host = sam_host {
@@ -518,6 +552,22 @@ impl sam_client {
     };
 }
 
+impl sam_server {
+    /// An empty handle: SAM_SERVER_INIT.
+    pub const INIT: sam_server = sam_server {
+        at: std::ptr::null_mut(),
+        made: 0,
+    };
+}
+
+impl sam_recovery {
+    /// An empty handle: SAM_RECOVERY_INIT.
+    pub const INIT: sam_recovery = sam_recovery {
+        at: std::ptr::null_mut(),
+        made: 0,
+    };
+}
+
 extern "C" {
     /// Returns the version of the library that the program runs with, in the form of SAM_VERSION, which is the version of this header.
     /// Before 1.0 calls may change when the minor number grows, so a program can compare the two. The protocol has a version of its own:
@@ -527,8 +577,8 @@ extern "C" {
     /// "unknown status". The text ends in NUL. The library owns it: it stays, and any thread may read it.
     pub fn sam_status_text(status: sam_status) -> *const c_char;
     /// Returns whether a status says that the handle has stopped for good. A feed, an event or a step returns one of these if the other
-    /// side's stream is wrong or was refused, or if a terminal has composed 2^64-1 messages. After any other status the handle goes on:
-    /// SAM_NO_MEMORY, SAM_UNFINISHED, SAM_COUNT_FULL, SAM_NOT_TEXT, SAM_TRUNCATED.
+    /// side's stream is wrong or was refused, if a terminal has composed 2^64-1 messages, or if a count of a durable server is full. After
+    /// any other status the handle goes on: SAM_NO_MEMORY, SAM_UNFINISHED, SAM_COUNT_FULL, SAM_NOT_TEXT, SAM_TRUNCATED.
     pub fn sam_is_stop(status: sam_status) -> bool;
 
     /// Makes a host with the command file alone (tag 0). Refused, in this order: SAM_NO_HANDLE if the handle is NULL; SAM_MADE if it is
@@ -1362,14 +1412,116 @@ extern "C" {
     pub fn sam_journal_read(bytes: *const u8, len: usize, random: *mut u64, count: *mut u64, end: *mut usize) -> sam_status;
     /// Hands out the record of this number that stands at this place of a file. Its random number is what sam_journal_read hands out.
     /// SAM_NONE if the file ends there. Refused: SAM_JOURNAL_TORN.
-    pub fn sam_journal_next(
-        bytes: *const u8,
-        len: usize,
-        place: usize,
-        random: u64,
-        number: u64,
-        found: *mut sam_record,
+    pub fn sam_journal_next(bytes: *const u8, len: usize, place: usize, random: u64, number: u64, found: *mut sam_record) -> sam_status;
+    /// Makes the server of a session without files (but the command file), before its first connection. The id is the session's name, as
+    /// for sam_link_new. Refused, in this order: SAM_NO_HANDLE if the handle is NULL; SAM_MADE if it is made already; SAM_NO_MEMORY. The
+    /// handle is then as it was.
+    pub fn sam_server_new(server: *mut sam_server, id: *const u8) -> sam_status;
+    /// Frees a server, with all that it keeps, and leaves the handle empty. Refused: SAM_NO_HANDLE if the handle is NULL or empty.
+    pub fn sam_server_free(server: *mut sam_server) -> sam_status;
+    /// Adds a file as sam_host_add_file does, and hands out its tag. Its own refusals: SAM_NOT_TEXT, SAM_ADD_TOO_LONG, SAM_ADD_NO_TAG.
+    /// After SAM_UNFINISHED the file has joined under the next tag, which is not handed out.
+    pub fn sam_server_add_file(
+        server: *mut sam_server,
+        name: *const u8,
+        name_len: usize,
+        text: *const u8,
+        text_len: usize,
+        tag: *mut u16,
     ) -> sam_status;
+    /// Takes a connection by its first 42 bytes, the terminal's hello: the connection before is over. The connection has the number that
+    /// sam_link_read_hello hands out. Before all but SAM_NO_HANDLE it may return what sam_link_read_hello refuses, and SAM_NONE for fewer
+    /// than 42 bytes. Its own refusals are those of sam_link_answer: SAM_LINK_BAD_HELLO to SAM_LINK_WRONG_COUNT. sam_link_write_refusal
+    /// writes what the terminal is told then.
+    pub fn sam_server_accept(server: *mut sam_server, bytes: *const u8, len: usize) -> sam_status;
+    /// Takes bytes that came on a connection after the hello, in pieces of any length, all or none, and answers each message that is whole.
+    /// Its own refusals are those of sam_link_feed but SAM_NO_MEMORY; the last three of them end the connection.
+    pub fn sam_server_receive(server: *mut sam_server, attempt: u64, bytes: *const u8, len: usize) -> sam_status;
+    /// Ends a connection, because it broke or because the program gives it up. Nothing changes if it isn't the newest. It makes no record.
+    pub fn sam_server_broken(server: *mut sam_server, attempt: u64) -> sam_status;
+    /// Puts a message for the terminal's program: a note of the link, behind all bytes that were put. Its own refusals: SAM_LINK_TOO_LONG
+    /// for more than 4,096 bytes; SAM_COUNT_FULL.
+    pub fn sam_server_say(server: *mut sam_server, bytes: *const u8, len: usize) -> sam_status;
+    /// Marks a file as dirty as sam_host_mark_dirty does: after a write that failed, before sam_server_effect_done. Its own refusals:
+    /// SAM_NONE if the tag has no file; SAM_MARK_COMMAND_FILE; SAM_MARK_NOT_ANNOUNCED.
+    pub fn sam_server_mark_dirty(server: *mut sam_server, tag: u16) -> sam_status;
+    /// Asks the terminal to acknowledge now, as sam_link_ask does. Its own refusal: SAM_COUNT_FULL.
+    pub fn sam_server_ask(server: *mut sam_server) -> sam_status;
+    /// Acknowledges all bytes that have come, as sam_link_acknowledge does. Its own refusal: SAM_COUNT_FULL.
+    pub fn sam_server_acknowledge(server: *mut sam_server) -> sam_status;
+    /// Goes on with what was taken last, after SAM_UNFINISHED; does nothing if no work is left. Refused, in this order: why the server has
+    /// stopped, at this call or before; SAM_UNFINISHED if memory is still short.
+    pub fn sam_server_go_on(server: *mut sam_server) -> sam_status;
+    /// Hands out the number of bytes of the record that sam_server_next_record hands out next. Returns SAM_NONE if there is none.
+    pub fn sam_server_record_len(server: *mut sam_server, len: *mut usize) -> sam_status;
+    /// Hands out the oldest record that was not handed out: copies its bytes, all of them or none, and hands out their number. The record
+    /// of a piece has 9 bytes more than the piece, no record of a message more than 4,097, and that of a file 9 more than its name and its
+    /// text. Refused, in this order, and nothing is changed then: SAM_NONE if there is none; SAM_NO_ROOM if it doesn't fit.
+    pub fn sam_server_next_record(server: *mut sam_server, into: *mut u8, room: usize, len: *mut usize) -> sam_status;
+    /// Takes so many more of the records that were handed out as durable, the oldest first.
+    pub fn sam_server_durable(server: *mut sam_server, count: usize) -> sam_status;
+    /// Moves the next bytes for a connection into the buffer, as many as durable records decide and fit, and hands out their number: first
+    /// the hello, and then the stream from the place where this connection goes on. Refused: SAM_LINK_NOT_OPEN if the connection is over or
+    /// isn't the newest.
+    pub fn sam_server_take_out(server: *mut sam_server, attempt: u64, into: *mut u8, room: usize, count: *mut usize) -> sam_status;
+    /// Hands out the effect that is to be done now, the same until sam_server_effect_done. What the terminal sent behind it waits for that:
+    /// do it soon. After a crash an effect is handed out again, unless the record of its end is durable. Returns SAM_NONE if there is none,
+    /// or while the record that has it is not durable.
+    pub fn sam_server_next_effect(server: *mut sam_server, effect: *mut sam_effect) -> sam_status;
+    /// Copies the message that is to be heard now, all of it or nothing, and hands out its length in bytes. A room of 4,096 bytes is always
+    /// enough. Refused, in this order: SAM_NONE if sam_server_next_effect hands out no message; SAM_NO_ROOM if it doesn't fit.
+    pub fn sam_server_heard(server: *mut sam_server, into: *mut u8, room: usize, len: *mut usize) -> sam_status;
+    /// Ends the effect, which is done. `ending` is a number of the program's own for how it ended, which stands in the record. Its own
+    /// refusal: SAM_NONE if sam_server_next_effect hands out none.
+    pub fn sam_server_effect_done(server: *mut sam_server, ending: u64) -> sam_status;
+    /// Hands out whether the session is over: the terminal has sent Texit, or a command line was `q`.
+    pub fn sam_server_is_done(server: *mut sam_server, done: *mut bool) -> sam_status;
+    /// Hands out the number of tags that were given, the command file's 0 included: the greatest tag is one less.
+    pub fn sam_server_tags(server: *mut sam_server, count: *mut usize) -> sam_status;
+    /// Hands out whether the tag has a file now. The tag of a closed file has none.
+    pub fn sam_server_has_file(server: *mut sam_server, tag: u16, has: *mut bool) -> sam_status;
+    /// Copies the name of a file, as sam_host_name does. Returns SAM_NONE if the tag has no file.
+    pub fn sam_server_name(server: *mut sam_server, tag: u16, into: *mut u8, room: usize, len: *mut usize) -> sam_status;
+    /// Hands out the length of a file's text in runes. Returns SAM_NONE if the tag has no file.
+    pub fn sam_server_len(server: *mut sam_server, tag: u16, runes: *mut u32) -> sam_status;
+    /// Hands out whether a file was edited since it was made or written. Returns SAM_NONE if the tag has no file.
+    pub fn sam_server_is_dirty(server: *mut sam_server, tag: u16, dirty: *mut bool) -> sam_status;
+    /// Copies the text of a file from the place `place` on, as sam_host_text does. Returns SAM_NONE if the tag has no file.
+    pub fn sam_server_text(
+        server: *mut sam_server,
+        tag: u16,
+        place: u32,
+        into: *mut u8,
+        room: usize,
+        bytes: *mut usize,
+        runes: *mut u32,
+    ) -> sam_status;
+    /// Hands out the length in runes of the text that a file had when the terminal had it written last. Returns SAM_NONE if the tag has no
+    /// file, or if the file was never written.
+    pub fn sam_server_saved_len(server: *mut sam_server, tag: u16, runes: *mut u32) -> sam_status;
+    /// Copies the text that a file had when the terminal had it written last, from the place `place` on, as sam_host_text does. Returns
+    /// SAM_NONE if the tag has no file, or if the file was never written.
+    pub fn sam_server_saved(
+        server: *mut sam_server,
+        tag: u16,
+        place: u32,
+        into: *mut u8,
+        room: usize,
+        bytes: *mut usize,
+        runes: *mut u32,
+    ) -> sam_status;
+    /// Begins with the server of a session that has taken nothing. The id is that of the session whose records they are. Refused, in this
+    /// order: SAM_NO_HANDLE if the handle is NULL; SAM_MADE if it is made already; SAM_NO_MEMORY. The handle is then as it was.
+    pub fn sam_recovery_new(recovery: *mut sam_recovery, id: *const u8) -> sam_status;
+    /// Frees a recovery, and leaves the handle empty. Refused: SAM_NO_HANDLE if the handle is NULL or empty.
+    pub fn sam_recovery_free(recovery: *mut sam_recovery) -> sam_status;
+    /// Takes the next record of the journal again: its body, as sam_server_next_record handed it out. Refused, in this order, and the
+    /// handle is then empty, so begin anew: SAM_SERVER_NO_RECORD; then SAM_SERVER_NOT_TAKEN or SAM_NO_MEMORY, whichever shows first.
+    pub fn sam_recovery_take(recovery: *mut sam_recovery, body: *const u8, len: usize) -> sam_status;
+    /// Makes the server that goes on behind all these records, and leaves the recovery's handle empty. The server's connection is over, and
+    /// its records are durable: an effect that waits is to be done now. Refused, in this order, and both handles are then as they were:
+    /// SAM_NO_HANDLE if one of them is NULL, or the recovery's is empty; SAM_MADE if the server's is made already; SAM_NO_MEMORY.
+    pub fn sam_recovery_finish(recovery: *mut sam_recovery, server: *mut sam_server) -> sam_status;
     /// Runs a script over a host and a terminal of its own, and hands out the output of its `show` lines, in bytes. It takes no handle.
     /// docs/reference/SCRIPTS.md explains the language. All lines are read before the first is done. At SAM_OK *out_len is the number of
     /// all bytes that are printed, and the first of them stand in `out`, as many as fit. The rest of the buffer is as it was. If *out_len

@@ -167,6 +167,18 @@ family! {
     }
 }
 
+family! {
+    /// The reason why a durable server has stopped, or a record is not taken again.
+    ServerFault {
+        /// A stream would have 2^64 bytes, and the server has stopped.
+        CountFull = SAM_SERVER_COUNT_FULL,
+        /// The bytes are those of no record.
+        NoRecord = SAM_SERVER_NO_RECORD,
+        /// The records before it lead to no server that takes it.
+        NotTaken = SAM_SERVER_NOT_TAKEN,
+    }
+}
+
 /// The reason why a call did not do its work. Each has its number in sulgrevad.h.
 #[derive(Clone, Copy, Debug, PartialEq, Eq)]
 #[non_exhaustive]
@@ -206,6 +218,8 @@ pub enum Error {
     Link(LinkFault),
     /// Bytes are no message of a session, or a message isn't written.
     Note(NoteFault),
+    /// A durable server has stopped, or a record is not taken again.
+    Server(ServerFault),
     /// The first wrong line of a script, counted from 1; or if none is wrong the line at which nothing is there to take.
     ScriptLine(usize),
     /// A line of a script would count more than 2^64-1 messages.
@@ -237,6 +251,7 @@ impl Error {
                 .or_else(|| Refusal::of(status).map(Error::Edit))
                 .or_else(|| LinkFault::of(status).map(Error::Link))
                 .or_else(|| NoteFault::of(status).map(Error::Note))
+                .or_else(|| ServerFault::of(status).map(Error::Server))
                 .unwrap_or(Error::Unknown(status)),
         }
     }
@@ -261,13 +276,15 @@ impl Error {
             Error::Edit(why) => why.status(),
             Error::Link(why) => why.status(),
             Error::Note(why) => why.status(),
+            Error::Server(why) => why.status(),
             Error::ScriptLine(_) => sys::SAM_SCRIPT_LINE,
             Error::ScriptCountFull => sys::SAM_SCRIPT_COUNT_FULL,
             Error::Unknown(status) => status,
         }
     }
 
-    /// Returns whether the host or terminal has stopped for good: the other side's stream is wrong, or was refused.
+    /// Returns whether the host, terminal or server has stopped for good: the other side's stream is wrong, or was refused, or a count of a
+    /// server is full.
     pub fn is_stop(self) -> bool {
         unsafe { sys::sam_is_stop(self.status()) }
     }
@@ -296,7 +313,7 @@ mod tests {
     use super::*;
 
     /// The numbers of sulgrevad.h, with the errors that they are.
-    const ERRORS: [(u32, Error); 51] = [
+    const ERRORS: [(u32, Error); 54] = [
         (1, Error::NoMemory),
         (2, Error::Unfinished),
         (3, Error::CountFull),
@@ -349,6 +366,9 @@ mod tests {
         (227, Error::Note(NoteFault::BadLength)),
         (228, Error::Note(NoteFault::BadPath)),
         (229, Error::Note(NoteFault::BadText)),
+        (289, Error::Server(ServerFault::CountFull)),
+        (290, Error::Server(ServerFault::NoRecord)),
+        (291, Error::Server(ServerFault::NotTaken)),
     ];
 
     const REFUSALS: [(u32, Refusal); 8] = [
@@ -391,11 +411,12 @@ mod tests {
     }
 
     #[test]
-    fn only_a_wrong_stream_stops() {
+    fn only_a_wrong_stream_or_a_full_count_stops() {
         for (status, error) in ERRORS {
             let is_of_a_stream = matches!(error, Error::Stream(_) | Error::HostRefused(_) | Error::TermRefused(_));
             let goes_on = error == Error::Stream(StreamFault::Truncated);
-            assert_eq!(error.is_stop(), is_of_a_stream && !goes_on, "{status}");
+            let is_full = error == Error::Server(ServerFault::CountFull);
+            assert_eq!(error.is_stop(), is_full || is_of_a_stream && !goes_on, "{status}");
         }
     }
 }

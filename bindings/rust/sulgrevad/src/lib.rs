@@ -2,6 +2,7 @@
 //! An [`Overlay`] is a terminal for an editor that takes each key at once: what its user does is shown while it waits.
 //! A [`Client`] is that and its line to the host, for a front end whose connections may break.
 //! A [`Link`] carries the bytes of both over connections that may break; a [`Line`] also says when a terminal is to connect.
+//! A [`DurableServer`] is a host with its end of a link, which goes on after a crash from records of what it took.
 //! `sulgrevad.h` and the page EMBEDDING of the repository have the whole story, and `sulgrevad-sys` says how the library is found.
 //!
 //! A [`Host`] is the server: it holds whole texts and runs commands. A [`Terminal`] is the client: it holds windows, and of each open text
@@ -49,17 +50,19 @@ mod link;
 mod note;
 mod overlay;
 mod script;
+mod server;
 mod step;
 mod terminal;
 
 pub use client::{Client, ClientEvent};
-pub use error::{Error, HostFault, LinkFault, NoteFault, Refusal, StreamFault, TermFault};
+pub use error::{Error, HostFault, LinkFault, NoteFault, Refusal, ServerFault, StreamFault, TermFault};
 pub use host::Host;
 pub use line::{Line, LineDetails, LineState, Tick};
 pub use link::{read_hello, write_refusal, Hello, Link, Phase, Place, Role, What, HELLO_BYTES, MOST_NOTE};
 pub use note::{read_note, write_note, Note, NoteCode, NoteKind};
 pub use overlay::{Dropped, Event, Overlay, Put, Splice, SpliceKind};
 pub use script::replay;
+pub use server::{recover, DurableServer, Effect, Recovery};
 pub use step::{HostStep, NextFrame, TermStep};
 pub use terminal::{Change, FileState, TermState, Terminal};
 

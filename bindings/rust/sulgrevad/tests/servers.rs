@@ -1,0 +1,129 @@
+//! A durable server, its records and its effects, and a server that is made of the records.
+
+use sulgrevad::{recover, DurableServer, Effect, Error, Link, LinkFault, Recovery, Role, ServerFault, Terminal};
+
+const ID: [u8; 16] = *b"a session's name";
+
+/// Puts the records into the journal, and tells that they are durable.
+fn record(server: &mut DurableServer, journal: &mut Vec<Vec<u8>>) {
+    while let Some(len) = server.record_len() {
+        let body = server.next_record().unwrap();
+        assert_eq!(body.len(), len);
+        journal.push(body);
+        server.durable(1);
+    }
+}
+
+/// Opens a connection between the two, and returns its number.
+fn connect(server: &mut DurableServer, link: &mut Link, journal: &mut Vec<Vec<u8>>) -> u64 {
+    let mut bytes = [0; 42];
+    let attempt = link.call(false).unwrap();
+    link.take_out(attempt, &mut bytes).unwrap();
+    server.accept(&bytes).unwrap();
+    assert_eq!(server.take_out(attempt, &mut [0; 42]), Ok(0));
+    record(server, journal);
+    assert_eq!(server.take_out(attempt, &mut bytes), Ok(42));
+    link.welcomed(&bytes).unwrap();
+    attempt
+}
+
+/// Carries bytes until none are left.
+fn carry(server: &mut DurableServer, link: &mut Link, term: &mut Terminal, attempt: u64, journal: &mut Vec<Vec<u8>>) {
+    let mut bytes = [0; 4096];
+    loop {
+        term.flush_now().unwrap();
+        let up: Vec<u8> = term.take_out().flatten().collect();
+        link.put(&up).unwrap();
+        let count = link.take_out(attempt, &mut bytes).unwrap();
+        server.receive(attempt, &bytes[..count]).unwrap();
+        record(server, journal);
+        let down = server.take_out(attempt, &mut bytes).unwrap();
+        link.feed(attempt, &bytes[..down]).unwrap();
+        loop {
+            match link.take_in(&mut bytes) {
+                0 => break,
+                count => term.feed(&bytes[..count]).unwrap(),
+            }
+        }
+        if up.len() + count + down == 0 {
+            return;
+        }
+    }
+}
+
+#[test]
+fn a_server_goes_on_after_a_crash() {
+    let (mut journal, mut term) = (Vec::new(), Terminal::new().unwrap());
+    let mut server = DurableServer::new(ID).unwrap();
+    let mut link = Link::new(Role::Terminal, ID).unwrap();
+    assert_eq!((server.add_file("notes", "hello\n"), server.next_effect()), (Ok(1), None));
+    let attempt = connect(&mut server, &mut link, &mut journal);
+    term.offer_version(2).unwrap();
+    term.open(1).unwrap();
+    term.type_(1, "b").unwrap();
+    term.write(1).unwrap();
+    term.type_(1, "c").unwrap();
+    link.put_note(b"note").unwrap();
+    carry(&mut server, &mut link, &mut term, attempt, &mut journal);
+    assert_eq!(server.next_effect(), Some(Effect::Hear(b"note".to_vec())));
+    server.effect_done(0).unwrap();
+    server.go_on().unwrap();
+    carry(&mut server, &mut link, &mut term, attempt, &mut journal);
+    assert_eq!(
+        (server.next_effect(), server.saved(1).as_deref()),
+        (Some(Effect::Write(1)), Some("bhello\n"))
+    );
+    drop(server); // a crash
+
+    let mut server = recover(ID, &journal).unwrap();
+    assert_eq!(
+        (server.next_effect(), server.record_len(), server.saved_len(1)),
+        (Some(Effect::Write(1)), None, Some(7))
+    );
+    assert_eq!(server.take_out(attempt, &mut [0; 9]), Err(Error::Link(LinkFault::NotOpen)));
+    link.broken(attempt);
+    let attempt = connect(&mut server, &mut link, &mut journal);
+    server.mark_dirty(1).unwrap();
+    server.effect_done(7).unwrap();
+    carry(&mut server, &mut link, &mut term, attempt, &mut journal);
+    assert_eq!((server.text(1).as_deref(), server.is_dirty(1)), (Some("bchello\n"), Some(true)));
+    assert_eq!(
+        (server.text_part(1, 1, 3).as_deref(), server.saved_part(1, 5, 9).as_deref()),
+        (Some("che"), Some("o\n"))
+    );
+    assert_eq!(
+        (server.name(1).as_deref(), server.name(2), server.len(1)),
+        (Some("notes"), None, Some(8))
+    );
+    assert_eq!(
+        (server.tags(), server.has_file(1), server.has_file(2), server.is_done()),
+        (2, true, false, false)
+    );
+    server.ask().unwrap();
+    server.acknowledge().unwrap();
+    server.say(b"hi").unwrap();
+    assert_eq!(server.take_out(attempt, &mut [0; 9]), Ok(0));
+    assert_eq!((server.next_record(), server.next_record()), (Some(vec![6]), Some(vec![5])));
+    server.durable(2);
+    assert_eq!(server.take_out(attempt, &mut [0; 99]), Ok(14));
+    server.broken(attempt);
+    assert_eq!(server.receive(attempt, b""), Err(Error::Link(LinkFault::NotOpen)));
+}
+
+#[test]
+fn records_that_lead_nowhere_are_refused() {
+    let mut journal = Vec::new();
+    let mut server = DurableServer::new(ID).unwrap();
+    assert_eq!(server.effect_done(0), Err(Error::NoFile));
+    assert_eq!(server.mark_dirty(0), Err(Error::CommandFile));
+    assert_eq!(server.say(&[0; 4097]), Err(Error::Link(LinkFault::TooLong)));
+    assert_eq!(server.accept(&[0; 42]), Err(Error::Link(LinkFault::NotALink)));
+    server.add_file("notes", "hello\n").unwrap();
+    record(&mut server, &mut journal);
+    assert_eq!(recover(ID, [b"\x09"]).err(), Some(Error::Server(ServerFault::NoRecord)));
+    let done = [7, 0, 0, 0, 0, 0, 0, 0, 0];
+    let recovery = Recovery::new(ID).unwrap().take(&journal[0]).unwrap();
+    assert_eq!(recovery.take(&done).err(), Some(Error::Server(ServerFault::NotTaken)));
+    let recovery = Recovery::new(ID).unwrap().take(&journal[0]).unwrap();
+    assert_eq!(recovery.finish().unwrap().text(1).as_deref(), Some("hello\n"));
+}

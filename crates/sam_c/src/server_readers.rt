@@ -1,0 +1,161 @@
+//! What C reads of the host of a durable server: include/sulgrevad.h says of each call what it hands out. None of them changes the server.
+//! Each returns `SAM_NO_HANDLE` if the handle is empty; after that, and after `SAM_NONE`, what its other arguments lead to is as it was. Places
+//! count runes from the beginning of the text.
+
+ghost use Rattle.std.specs.Prelude.{◌≡◌, drop, is_some, length, option_map};
+ghost use Rattle.sam_c.specs.Buffers.{countable};
+ghost use Rattle.sam_c.specs.Calls.{Reports, ReportsName, ReportsSome, ReportsText, written};
+ghost use Rattle.sam_c.specs.Hosts.{file_of, saved_of};
+ghost use Rattle.sam_c.specs.Servers.{host_of};
+
+use crate::handle::with_end;
+use crate::host_files::{
+    tell_file_len, tell_file_name, tell_file_text, tell_is_dirty, tell_saved, tell_saved_len,
+};
+use crate::server_handle::SamServer;
+use crate::status::{NO_HANDLE, OK};
+use std::alloc::Global;
+
+/// Hands out whether the session is over: the terminal has sent Texit, or a command line was `q`.
+#[unsafe(no_mangle)]
+pub extern "C" fn sam_server_is_done(server: &mut SamServer, done: &mut bool, alloc: Global) -> u32
+    ensures told { Reports server.old.held.end result done.old done.new (λ d. (host_of d).host.is_done) }
+    ensures kept { server.new.held.end ≡ server.old.held.end }
+{
+    with_end!(server alloc end { *done = end.host().is_done(); OK })
+}
+
+/// Hands out how many tags were given, the command file's 0 included: the greatest is one less.
+#[unsafe(no_mangle)]
+pub extern "C" fn sam_server_tags(server: &mut SamServer, count: &mut usize, alloc: Global) -> u32
+    ensures told { Reports server.old.held.end result count.old count.new (λ d. length (host_of d).host.files.slots) }
+    ensures kept { server.new.held.end ≡ server.old.held.end }
+{
+    with_end!(server alloc end { *count = end.host().files().tags(); OK })
+}
+
+/// Hands out whether the tag has a file now. A file that was closed has none.
+#[unsafe(no_mangle)]
+pub extern "C" fn sam_server_has_file(
+    server: &mut SamServer,
+    tag: u16,
+    has: &mut bool,
+    alloc: Global,
+) -> u32
+    ensures told { Reports server.old.held.end result has.old has.new (λ d. is_some (file_of (host_of d) tag)) }
+    ensures kept { server.new.held.end ≡ server.old.held.end }
+{
+    with_end!(server alloc end { *has = end.host().files().has(tag); OK })
+}
+
+/// Puts the name of a file into the buffer in UTF-8, as many whole runes as have room, and hands out how many bytes. 256 bytes are always
+/// enough. `SAM_NONE` if the tag has no file.
+#[unsafe(no_mangle)]
+pub extern "C" fn sam_server_name(
+    server: &mut SamServer,
+    tag: u16,
+    into: &mut [u8],
+    len: &mut usize,
+    alloc: Global,
+) -> u32
+    ensures told { ReportsName server.old.held.end result into.old into.new len.old len.new
+        (λ d. option_map (λ f. f.name) (file_of (host_of d) tag)) }
+    ensures kept { server.new.held.end ≡ server.old.held.end }
+{
+    with_end!(server alloc end {
+        tell_file_name(end.host(), tag, into, len)
+    })
+}
+
+/// Hands out the length of a file's text in runes. `SAM_NONE` if the tag has no file.
+#[unsafe(no_mangle)]
+pub extern "C" fn sam_server_len(
+    server: &mut SamServer,
+    tag: u16,
+    runes: &mut u32,
+    alloc: Global,
+) -> u32
+    ensures told { ReportsSome server.old.held.end result runes.old runes.new
+        (λ d. option_map (λ f. length f.text) (file_of (host_of d) tag)) }
+    ensures kept { server.new.held.end ≡ server.old.held.end }
+{
+    with_end!(server alloc end {
+        tell_file_len(end.host(), tag, runes)
+    })
+}
+
+/// Hands out whether a file was edited since it was made or written; never for the command file, tag 0. `SAM_NONE` if the tag has no file.
+#[unsafe(no_mangle)]
+pub extern "C" fn sam_server_is_dirty(
+    server: &mut SamServer,
+    tag: u16,
+    dirty: &mut bool,
+    alloc: Global,
+) -> u32
+    ensures told { ReportsSome server.old.held.end result dirty.old dirty.new (λ d. option_map (λ f. f.dirty) (file_of (host_of d) tag)) }
+    ensures kept { server.new.held.end ≡ server.old.held.end }
+{
+    with_end!(server alloc end {
+        tell_is_dirty(end.host(), tag, dirty)
+    })
+}
+
+/// Puts a file's text from a place on into the buffer in UTF-8, as many whole runes as have room. Hands out how many bytes and how many
+/// runes: none if the place is at the end or after it. `SAM_NONE` if the tag has no file.
+#[unsafe(no_mangle)]
+pub extern "C" fn sam_server_text(
+    server: &mut SamServer,
+    tag: u16,
+    place: u32,
+    into: &mut [u8],
+    bytes: &mut usize,
+    runes: &mut u32,
+    alloc: Global,
+) -> u32
+    ensures told { ReportsText server.old.held.end result (written into.old bytes.old runes.old) (written into.new bytes.new runes.new)
+        (λ d. option_map (λ f. drop place f.text) (file_of (host_of d) tag)) }
+    ensures kept { server.new.held.end ≡ server.old.held.end }
+{
+    with_end!(server alloc end {
+        tell_file_text(end.host(), tag, place, into, bytes, runes)
+    })
+}
+
+/// Hands out the length in runes of what a file was when it was written last (Twrite). `SAM_NONE` if it never was, or if the tag has no
+/// file.
+#[unsafe(no_mangle)]
+pub extern "C" fn sam_server_saved_len(
+    server: &mut SamServer,
+    tag: u16,
+    runes: &mut u32,
+    alloc: Global,
+) -> u32
+    ensures told { ReportsSome server.old.held.end result runes.old runes.new
+        (λ d. option_map (λ s. length (countable s)) (saved_of (host_of d) tag)) }
+    ensures kept { server.new.held.end ≡ server.old.held.end }
+{
+    with_end!(server alloc end {
+        tell_saved_len(end.host(), tag, runes)
+    })
+}
+
+/// Puts what a file was when it was written last (Twrite), from a place on, into the buffer in UTF-8, as many whole runes as have room.
+/// Hands out how many bytes and how many runes. `SAM_NONE` if it never was written, or if the tag has no file.
+#[unsafe(no_mangle)]
+pub extern "C" fn sam_server_saved(
+    server: &mut SamServer,
+    tag: u16,
+    place: u32,
+    into: &mut [u8],
+    bytes: &mut usize,
+    runes: &mut u32,
+    alloc: Global,
+) -> u32
+    ensures told { ReportsText server.old.held.end result (written into.old bytes.old runes.old) (written into.new bytes.new runes.new)
+        (λ d. option_map (λ s. drop place (countable s)) (saved_of (host_of d) tag)) }
+    ensures kept { server.new.held.end ≡ server.old.held.end }
+{
+    with_end!(server alloc end {
+        tell_saved(end.host(), tag, place, into, bytes, runes)
+    })
+}
