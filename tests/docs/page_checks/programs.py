@@ -8,7 +8,7 @@ from checks import GIVEN_UP, ROOT, expect
 
 PAGES = sorted([*(ROOT / "docs/tutorials").glob("*.md"), *(ROOT / "docs/howto").glob("*.md")])
 PROGRAM = re.compile(r"^```python\n(# (\w+\.py)\n.*?)^```$.*?^```text\n(.*?)^```$", re.MULTILINE | re.DOTALL)
-WITH_PROGRAMS = {"SPLIT_EDITOR": 5, "SAVING": 1, "UNDO": 1, "CLIPBOARD": 1}  # pages, and how many programs each has
+WITH_PROGRAMS = {"SPLIT_EDITOR": 5, "SAVING": 1, "UNDO": 1, "CLIPBOARD": 1, "EMBEDDING": 1}  # pages, and how many programs each has
 SPLIT = ROOT / "examples/split"
 MOST_LINES = 70
 
