@@ -11,3 +11,4 @@ pub mod Remaking
 pub mod Serving
 pub mod Recoveries
 pub mod Programs
+pub mod Heirs

@@ -6,3 +6,4 @@ pub mod Recoveries
 pub mod Serving
 pub mod Sessions
 pub mod Turns
+pub mod Heirs

@@ -1,9 +1,10 @@
 //! The laws of a session whose host may crash, stated by the clauses of functions that do nothing.
 //!
 //! The first four speak of the calls of a link, the others of a server: a host endpoint with its end of a link, and with records of what it
-//! was given. The last speaks of the calls of a program.
+//! was given. The last two speak of the calls of a program.
 ghost use Rattle.sam_served.specs.Crashes.{CrashesAreBreaks, EndsAreMade};
 ghost use Rattle.sam_served.specs.Gates.{GateIsCounted};
+ghost use Rattle.sam_served.specs.Heirs.{HeirsAreServed};
 ghost use Rattle.sam_served.specs.Marks.{GatesKeepTheRule, MarksAreRight};
 ghost use Rattle.sam_served.specs.Programs.{ProgramsAreServed};
 ghost use Rattle.sam_served.specs.Recoveries.{RecoveriesAreCrashes, RecoveriesGoOn};
@@ -72,4 +73,10 @@ pub fn served_are_one_run()
 /// killed at any moment, is a server of the definition: so all that the laws say of its sessions holds of the program's.
 pub fn programs_are_served()
     ensures { ProgramsAreServed }
+{}
+
+/// States that a program whose server begins with the texts of another, as `heir` makes it, is one that took a record for each file: so
+/// whatever calls follow, with any crashes, are a session of the definition too.
+pub fn heirs_are_served()
+    ensures { HeirsAreServed }
 {}
