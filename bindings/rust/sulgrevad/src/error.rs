@@ -313,7 +313,7 @@ mod tests {
     use super::*;
 
     /// The numbers of sulgrevad.h, with the errors that they are.
-    const ERRORS: [(u32, Error); 54] = [
+    const ERRORS: [(u32, Error); 55] = [
         (1, Error::NoMemory),
         (2, Error::Unfinished),
         (3, Error::CountFull),
