@@ -59,7 +59,7 @@ fn event_goes_out_before_a_later_note(rt: HostRuntime) {
     let seen = lent(client(rt.alloc()), |client| {
         let mut out = [0; 64];
         let opened = client.connected(0).is_ok() && client.receive(1, &WELCOME, 0).is_ok();
-        let taken = client.bring_event(UserEvent::Version(2)).is_ok();
+        let taken = client.ask(UserEvent::Version(2)).is_ok();
         let acted = told(client.go_on(0));
         let rests = told(client.go_on(0));
         let put = client.put_note(b"hi", 0).is_ok();
@@ -81,7 +81,7 @@ fn event_goes_out_before_a_later_note(rt: HostRuntime) {
 fn note_comes_behind_the_frames_in_front(rt: HostRuntime) {
     let seen = lent(client(rt.alloc()), |client| {
         let opened = client.connected(0).is_ok() && client.receive(1, &WELCOME, 0).is_ok();
-        let taken = client.bring_event(UserEvent::Version(2)).is_ok();
+        let taken = client.ask(UserEvent::Version(2)).is_ok();
         let acted = told(client.go_on(0));
         let rests = told(client.go_on(0));
         let came = client.receive(1, &ANSWER, 0).is_ok();
@@ -109,7 +109,7 @@ fn host_has_all_once_it_says_so(rt: HostRuntime) {
     let seen = lent(client(rt.alloc()), |client| {
         let first = (client.has_all(), client.is_unsaved(7));
         let opened = client.connected(0).is_ok() && client.receive(1, &WELCOME, 0).is_ok();
-        let taken = client.bring_event(UserEvent::Version(2)).is_ok();
+        let taken = client.ask(UserEvent::Version(2)).is_ok();
         let held = client.has_all();
         let acted = told(client.go_on(0));
         let rests = told(client.go_on(0));
@@ -139,8 +139,8 @@ fn host_has_all_once_it_says_so(rt: HostRuntime) {
 #[test]
 fn refusals_are_told_once(rt: HostRuntime) {
     let seen = lent(client(rt.alloc()), |client| {
-        let taken = client.bring_event(UserEvent::Close(7)).is_ok();
-        let edit = client.replace(7, 0, 0, &['x']);
+        let taken = client.ask(UserEvent::Close(7)).is_ok();
+        let edit = client.replace(8, 0, 0, &['x']);
         let long = client.put_note(&[0; 4097], 0);
         let first = told(client.go_on(0));
         let second = told(client.go_on(0));
