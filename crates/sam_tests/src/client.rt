@@ -1,4 +1,6 @@
 //! A client, call by call.
+mod requests;
+
 use sam_client::{Client, Event, GoOnFault};
 use sam_endpoint::TermStep;
 use sam_link::{Id, NoteFault};
