@@ -3,5 +3,6 @@
 mod crashes;
 mod effects;
 mod gates;
+mod heirs;
 mod piece;
 mod records;
