@@ -1975,7 +1975,7 @@ sam_status sam_recovery_free(sam_recovery *recovery);
 SAM_MUST_USE sam_status sam_recovery_take(sam_recovery *recovery, const uint8_t *body, size_t len);
 
 /* Makes the server that goes on behind all these records, and leaves the recovery's handle empty. The server's connection is over, and its
- * records are durable: an effect that waits is to be done now. Refused, in this order, and both handles are then as they were: SAM_NO_HANDLE
+ * records count as durable, so have the journal synced before: an effect that waits is to be done now. Refused, in this order, and both handles are then as they were: SAM_NO_HANDLE
  * if one of them is NULL, or the recovery's is empty; SAM_MADE if the server's is made already; SAM_NO_MEMORY. */
 SAM_MUST_USE sam_status sam_recovery_finish(sam_recovery *recovery, sam_server *server);
 

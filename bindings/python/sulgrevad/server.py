@@ -236,8 +236,8 @@ class Recovery(Held):
         self._call("take", body, len(body))
 
     def finish(self) -> DurableServer:
-        """Returns the server that goes on behind all these records. Its connection is over, and its records are durable: an effect that
-        waits is to be done now. Any later call of this object but `free` raises HandleFault. Raises NoMemory, and nothing has changed."""
+        """Returns the server that goes on behind all these records. Its connection is over, and its records count as durable, so have the
+        journal synced before: an effect that waits is to be done now. Any later call of this object but `free` raises HandleFault. Raises NoMemory, and nothing has changed."""
         server = DurableServer.__new__(DurableServer)
         server._prepare()
         server._handle = Handle()
@@ -246,7 +246,7 @@ class Recovery(Held):
 
 
 def recover(id: Bytes, records: Iterable[Bytes]) -> DurableServer:
-    """Makes a durable server again, of the records of its journal from the oldest on. Raises ServerFault at a record that is none, or that
+    """Makes a durable server again, of the records of its journal from the oldest on, once that is synced. Raises ServerFault at a record that is none, or that
     the records before it don't lead to; NoMemory."""
     with Recovery(id) as recovery:
         for body in records:

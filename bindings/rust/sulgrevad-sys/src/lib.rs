@@ -1519,8 +1519,9 @@ extern "C" {
     /// handle is then empty, so begin anew: SAM_SERVER_NO_RECORD; then SAM_SERVER_NOT_TAKEN or SAM_NO_MEMORY, whichever shows first.
     pub fn sam_recovery_take(recovery: *mut sam_recovery, body: *const u8, len: usize) -> sam_status;
     /// Makes the server that goes on behind all these records, and leaves the recovery's handle empty. The server's connection is over, and
-    /// its records are durable: an effect that waits is to be done now. Refused, in this order, and both handles are then as they were:
-    /// SAM_NO_HANDLE if one of them is NULL, or the recovery's is empty; SAM_MADE if the server's is made already; SAM_NO_MEMORY.
+    /// its records count as durable, so have the journal synced before: an effect that waits is to be done now. Refused, in this order, and
+    /// both handles are then as they were: SAM_NO_HANDLE if one of them is NULL, or the recovery's is empty; SAM_MADE if the server's is
+    /// made already; SAM_NO_MEMORY.
     pub fn sam_recovery_finish(recovery: *mut sam_recovery, server: *mut sam_server) -> sam_status;
     /// Runs a script over a host and a terminal of its own, and hands out the output of its `show` lines, in bytes. It takes no handle.
     /// docs/reference/SCRIPTS.md explains the language. All lines are read before the first is done. At SAM_OK *out_len is the number of

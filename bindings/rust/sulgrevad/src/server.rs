@@ -256,8 +256,8 @@ impl Recovery {
         Ok(self)
     }
 
-    /// Returns the server that goes on behind all these records. Its connection is over, and its records are durable: an effect that waits
-    /// is to be done now. Its only error is `NoMemory`, with the recovery as it was.
+    /// Returns the server that goes on behind all these records. Its connection is over, and its records count as durable, so have the
+    /// journal synced before: an effect that waits is to be done now. Its only error is `NoMemory`, with the recovery as it was.
     pub fn finish(mut self) -> Result<DurableServer, (Error, Recovery)> {
         let server = DurableServer {
             handle: Box::new(UnsafeCell::new(sam_server::INIT)),
@@ -275,7 +275,7 @@ impl Drop for Recovery {
     }
 }
 
-/// Makes a durable server again, of the records of its journal from the oldest on. Errors: `Server` at a record that is none, or that the
+/// Makes a durable server again, of the records of its journal from the oldest on, once that is synced. Errors: `Server` at a record that is none, or that the
 /// records before it don't lead to; `NoMemory`.
 pub fn recover<B: AsRef<[u8]>>(id: [u8; sys::SAM_LINK_ID_BYTES], records: impl IntoIterator<Item = B>) -> Result<DurableServer, Error> {
     let mut recovery = Recovery::new(id)?;
