@@ -1819,14 +1819,14 @@ SAM_MUST_USE sam_status sam_journal_next(const uint8_t *bytes, size_t len, size_
  *     sam_recovery_take(&recovery, body, len)          each record
  *     sam_recovery_finish(&recovery, &server)          the server goes on
  *
- * The terminal's side is a link or a line: sam_link_.., sam_line_... Places of texts, tags and names are those of sam_host_... A journal may
- * be one of sam_journal_.., whose records have these bodies.
+ * The terminal's side is a link or a line: sam_link_.., sam_line_... Places of texts, tags and names are those of sam_host_... A journal
+ * may be one of sam_journal_.., whose records have these bodies.
  *
  * Statuses of a call that takes something come in this order: SAM_NO_HANDLE; SAM_STREAM.., SAM_HOST_REFUSED.. or SAM_SERVER_COUNT_FULL if
  * the server has stopped before; SAM_WAITING if earlier work is left; SAM_NO_MEMORY; the call's own refusals. Nothing is taken then, and no
- * record is made. Behind them, once it is taken, come SAM_UNFINISHED if memory is short, and why the server stops. Until sam_server_go_on has
- * returned SAM_OK after SAM_UNFINISHED, no other call takes anything, nothing goes out, and the record of what was taken is not handed out.
- * Of these calls those that can return SAM_NO_MEMORY or SAM_UNFINISHED take memory, the others none. */
+ * record is made. Behind them, once it is taken, come SAM_UNFINISHED if memory is short, and why the server stops. Until sam_server_go_on
+ * has returned SAM_OK after SAM_UNFINISHED, no other call takes anything, nothing goes out, and the record of what was taken is not handed
+ * out. Of these calls those that can return SAM_NO_MEMORY or SAM_UNFINISHED take memory, the others none. */
 
 /* The kinds of effects. */
 enum sam_effect_kind {
@@ -1863,9 +1863,9 @@ SAM_MUST_USE sam_status sam_server_add_file(sam_server *server, const uint8_t *n
                                             uint16_t *tag);
 
 /* Takes a connection by its first 42 bytes, the terminal's hello: the connection before is over. The connection has the number that
- * sam_link_read_hello hands out. Before all but SAM_NO_HANDLE it may return what sam_link_read_hello refuses, and SAM_NONE for fewer than 42
- * bytes. Its own refusals are those of sam_link_answer: SAM_LINK_BAD_HELLO to SAM_LINK_WRONG_COUNT. sam_link_write_refusal writes what the
- * terminal is told then. */
+ * sam_link_read_hello hands out. Before all but SAM_NO_HANDLE it may return what sam_link_read_hello refuses, and SAM_NONE for fewer than
+ * 42 bytes. Its own refusals are those of sam_link_answer: SAM_LINK_BAD_HELLO to SAM_LINK_WRONG_COUNT. sam_link_write_refusal writes what
+ * the terminal is told then. */
 SAM_MUST_USE sam_status sam_server_accept(sam_server *server, const uint8_t *bytes, size_t len);
 
 /* Takes bytes that came on a connection after the hello, in pieces of any length, all or none, and answers each message that is whole. Its
@@ -1879,8 +1879,8 @@ SAM_MUST_USE sam_status sam_server_broken(sam_server *server, uint64_t attempt);
  * more than 4,096 bytes; SAM_COUNT_FULL. */
 SAM_MUST_USE sam_status sam_server_say(sam_server *server, const uint8_t *bytes, size_t len);
 
-/* Marks a file as dirty as sam_host_mark_dirty does: after a write that failed, before sam_server_effect_done. Its own refusals: SAM_NONE if
- * the tag has no file; SAM_MARK_COMMAND_FILE; SAM_MARK_NOT_ANNOUNCED. */
+/* Marks a file as dirty as sam_host_mark_dirty does: after a write that failed, before sam_server_effect_done. Its own refusals: SAM_NONE
+ * if the tag has no file; SAM_MARK_COMMAND_FILE; SAM_MARK_NOT_ANNOUNCED. */
 SAM_MUST_USE sam_status sam_server_mark_dirty(sam_server *server, uint16_t tag);
 
 /* Asks the terminal to acknowledge now, as sam_link_ask does. Its own refusal: SAM_COUNT_FULL. */
@@ -1909,15 +1909,15 @@ SAM_MUST_USE sam_status sam_server_durable(sam_server *server, size_t count);
 /* ---- A durable server: bytes out ---- */
 
 /* Moves the next bytes for a connection into the buffer, as many as durable records decide and fit, and hands out their number: first the
- * hello, and then the stream from the place where this connection goes on. Refused: SAM_LINK_NOT_OPEN if the connection is over or isn't the
- * newest. */
+ * hello, and then the stream from the place where this connection goes on. Refused: SAM_LINK_NOT_OPEN if the connection is over or isn't
+ * the newest. */
 SAM_MUST_USE sam_status sam_server_take_out(sam_server *server, uint64_t attempt, uint8_t *into, size_t room, size_t *count);
 
 /* ---- A durable server: effects ---- */
 
-/* Hands out the effect that is to be done now, the same until sam_server_effect_done. What the terminal sent behind it waits for that: do it
- * soon. After a crash an effect is handed out again, unless the record of its end is durable. Returns SAM_NONE if there is none, or while the
- * record that has it is not durable. */
+/* Hands out the effect that is to be done now, the same until sam_server_effect_done. What the terminal sent behind it waits for that: do
+ * it soon. After a crash an effect is handed out again, unless the record of its end is durable. Returns SAM_NONE if there is none, or
+ * while the record that has it is not durable. */
 SAM_MUST_USE sam_status sam_server_next_effect(sam_server *server, sam_effect *effect);
 
 /* Copies the message that is to be heard now, all of it or nothing, and hands out its length in bytes. A room of 4,096 bytes is always
@@ -1975,8 +1975,9 @@ sam_status sam_recovery_free(sam_recovery *recovery);
 SAM_MUST_USE sam_status sam_recovery_take(sam_recovery *recovery, const uint8_t *body, size_t len);
 
 /* Makes the server that goes on behind all these records, and leaves the recovery's handle empty. The server's connection is over, and its
- * records count as durable, so have the journal synced before: an effect that waits is to be done now. Refused, in this order, and both handles are then as they were: SAM_NO_HANDLE
- * if one of them is NULL, or the recovery's is empty; SAM_MADE if the server's is made already; SAM_NO_MEMORY. */
+ * records count as durable, so have the journal synced before: an effect that waits is to be done now. Refused, in this order, and both
+ * handles are then as they were: SAM_NO_HANDLE if one of them is NULL, or the recovery's is empty; SAM_MADE if the server's is made
+ * already; SAM_NO_MEMORY. */
 SAM_MUST_USE sam_status sam_recovery_finish(sam_recovery *recovery, sam_server *server);
 
 /* ==== Scripts ==== */

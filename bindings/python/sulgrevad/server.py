@@ -116,8 +116,8 @@ class DurableServer(Texts, Mover):
         self._call("acknowledge")
 
     def go_on(self) -> None:
-        """Goes on with what was taken last, after Unfinished; does nothing if no work is left. Raises, in this order: the fault by which the
-        server has stopped, at this call or before; Unfinished."""
+        """Goes on with what was taken last, after Unfinished; does nothing if no work is left. Raises, in this order: the fault by which
+        the server has stopped, at this call or before; Unfinished."""
         self._call("go_on")
 
     # ---- Records, and bytes out
@@ -153,8 +153,8 @@ class DurableServer(Texts, Mover):
     # ---- Effects
 
     def next_effect(self) -> Optional[Effect]:
-        """Returns the effect that is to be done now, the same until `effect_done`; None if there is none, or while the record that has it is
-        not durable. What the terminal sent behind it waits for that: do it soon. After a crash an effect is returned again, unless the
+        """Returns the effect that is to be done now, the same until `effect_done`; None if there is none, or while the record that has it
+        is not durable. What the terminal sent behind it waits for that: do it soon. After a crash an effect is returned again, unless the
         record of its end is durable."""
         effect = CEffect()
         code = self._answer("next_effect", byref(effect))
@@ -237,7 +237,8 @@ class Recovery(Held):
 
     def finish(self) -> DurableServer:
         """Returns the server that goes on behind all these records. Its connection is over, and its records count as durable, so have the
-        journal synced before: an effect that waits is to be done now. Any later call of this object but `free` raises HandleFault. Raises NoMemory, and nothing has changed."""
+        journal synced before: an effect that waits is to be done now. Any later call of this object but `free` raises HandleFault. Raises
+        NoMemory, and nothing has changed."""
         server = DurableServer.__new__(DurableServer)
         server._prepare()
         server._handle = Handle()
@@ -246,8 +247,8 @@ class Recovery(Held):
 
 
 def recover(id: Bytes, records: Iterable[Bytes]) -> DurableServer:
-    """Makes a durable server again, of the records of its journal from the oldest on, once that is synced. Raises ServerFault at a record that is none, or that
-    the records before it don't lead to; NoMemory."""
+    """Makes a durable server again, of the records of its journal from the oldest on, once that is synced. Raises ServerFault at a record
+    that is none, or that the records before it don't lead to; NoMemory."""
     with Recovery(id) as recovery:
         for body in records:
             recovery.take(body)

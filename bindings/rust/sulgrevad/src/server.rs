@@ -14,8 +14,8 @@ pub enum Effect {
 }
 
 /// A host with its end of a link, which outlives a crash. It makes a record of each thing that it takes, and nothing that a record decides
-/// goes out before that record is durable. So the terminal never learns of anything that a crash undoes. It opens no file and no connection,
-/// and knows no clock.
+/// goes out before that record is durable. So the terminal never learns of anything that a crash undoes. It opens no file and no
+/// connection, and knows no clock.
 ///
 /// A call that takes something has these errors, in this order: why the server has stopped before (`Stream`, `HostRefused`, `Server`);
 /// `Waiting` if earlier work is left; `NoMemory`; its own refusals. Nothing is taken then, and no record is made. Once it is taken,
@@ -65,8 +65,8 @@ impl DurableServer {
         self.handle.get()
     }
 
-    /// Adds a file, and returns its tag: 1 for the first, 2 for the next, and so on. Its own refusals: `TooLong`, `NoTag`. After `Unfinished`
-    /// the file has joined under the next tag.
+    /// Adds a file, and returns its tag: 1 for the first, 2 for the next, and so on. Its own refusals: `TooLong`, `NoTag`. After
+    /// `Unfinished` the file has joined under the next tag.
     pub fn add_file(&mut self, name: &str, text: &str) -> Result<u16, Error> {
         let mut tag = 0;
         done(unsafe { sys::sam_server_add_file(self.at(), name.as_ptr(), name.len(), text.as_ptr(), text.len(), &mut tag) })?;
@@ -74,8 +74,8 @@ impl DurableServer {
     }
 
     /// Takes a connection by its first 42 bytes, the terminal's hello: the connection before is over. Its number is the one that
-    /// `read_hello` returns. Before all other errors come those of `read_hello`. Its own refusals: `Link`, `BadHello` to `WrongCount`, which
-    /// `write_refusal` tells the terminal.
+    /// `read_hello` returns. Before all other errors come those of `read_hello`. Its own refusals: `Link`, `BadHello` to `WrongCount`,
+    /// which `write_refusal` tells the terminal.
     pub fn accept(&mut self, hello: &[u8; HELLO_BYTES]) -> Result<(), Error> {
         done(unsafe { sys::sam_server_accept(self.at(), hello.as_ptr(), hello.len()) })
     }
@@ -136,8 +136,8 @@ impl DurableServer {
         unsafe { sys::sam_server_durable(self.at(), count) };
     }
 
-    /// Moves the next bytes for a connection into the buffer, as many as durable records decide and fit, and returns their number: first the
-    /// hello, and then the stream from the place where this connection goes on. Its only error is `Link(NotOpen)`.
+    /// Moves the next bytes for a connection into the buffer, as many as durable records decide and fit, and returns their number: first
+    /// the hello, and then the stream from the place where this connection goes on. Its only error is `Link(NotOpen)`.
     pub fn take_out(&mut self, attempt: u64, into: &mut [u8]) -> Result<usize, Error> {
         let mut count = 0;
         done(unsafe { sys::sam_server_take_out(self.at(), attempt, into.as_mut_ptr(), into.len(), &mut count) })?;
@@ -249,8 +249,8 @@ impl Recovery {
         Ok(recovery)
     }
 
-    /// Takes the next record of the journal again. Errors, in this order: `Server(NoRecord)`; then `Server(NotTaken)` or `NoMemory`, whichever
-    /// shows first. Nothing is left of the recovery then: begin anew.
+    /// Takes the next record of the journal again. Errors, in this order: `Server(NoRecord)`; then `Server(NotTaken)` or `NoMemory`,
+    /// whichever shows first. Nothing is left of the recovery then: begin anew.
     pub fn take(mut self, body: &[u8]) -> Result<Recovery, Error> {
         done(unsafe { sys::sam_recovery_take(&mut self.handle, body.as_ptr(), body.len()) })?;
         Ok(self)
@@ -275,8 +275,8 @@ impl Drop for Recovery {
     }
 }
 
-/// Makes a durable server again, of the records of its journal from the oldest on, once that is synced. Errors: `Server` at a record that is none, or that the
-/// records before it don't lead to; `NoMemory`.
+/// Makes a durable server again, of the records of its journal from the oldest on, once that is synced. Errors: `Server` at a record that
+/// is none, or that the records before it don't lead to; `NoMemory`.
 pub fn recover<B: AsRef<[u8]>>(id: [u8; sys::SAM_LINK_ID_BYTES], records: impl IntoIterator<Item = B>) -> Result<DurableServer, Error> {
     let mut recovery = Recovery::new(id)?;
     for body in records {
