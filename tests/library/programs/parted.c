@@ -15,7 +15,7 @@ static uint64_t state;
 static bool sends;
 static unsigned long edits, lines, writes, notes, breaks;
 static struct text alone; /* what the edits make on one machine */
-static struct text asked; /* what was shown when the last write was asked for */
+static struct text asked; /* the same when the last write was asked for */
 static long signs;        /* how many the user has typed and not taken out again */
 
 /* A number below `below`, by xorshift. */
@@ -85,7 +85,7 @@ static void user(void)
     switch (pick(ALL_KINDS)) {
     case 0:
         writes++;
-        asked = copy;
+        asked = alone;
         event(SAM_EVENT_WRITE, EDITED, 0, 0);
         break;
     case 1:
