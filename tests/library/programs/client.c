@@ -357,6 +357,8 @@ static void typed_under_a_lock(void)
     WANT(ask_for(SAM_EVENT_WRITE, 1, 0, 0), SAM_OK);
     settle();
     WANT(has_all() && !is_unsaved(1), 1);
+    WANT(sam_client_replace(&client, 1, 0, 0, BYTES("x")), SAM_OK);
+    WANT(details_of().has_all && !has_all() && is_unsaved(1), 1); /* the line has nothing yet that the host has not */
     free_both();
 }
 
@@ -427,6 +429,12 @@ static void notes(void)
     WANT(notes_down, down + 1);
     WANT(READ(sam_client_note(&client, bytes, sizeof bytes, &count)), SAM_OK);
     WANT(count == 4 && memcmp(bytes, "down", 4) == 0, 1);
+    WANT(ask_for(SAM_EVENT_CHECK, 1, 0, 0), SAM_OK);
+    WANT(ask_for(SAM_EVENT_CHECK, 1, 0, 0), SAM_OK);
+    WANT(next_event() == SAM_CLIENT_STEPPED && next_event() == SAM_CLIENT_STEPPED, 1); /* the first is composed, and not in the line */
+    WANT(sam_client_put_note(&client, BYTES("up"), now), SAM_OK);
+    WANT(READ(sam_client_take_out(&client, attempt, bytes, sizeof bytes, &count)), SAM_OK);
+    WANT(count > 8 && bytes[0] == DATA[0] && memcmp(bytes + count - 5, NOTE "\0\2up", 5) == 0, 1);
     free_both();
 }
 
