@@ -113,8 +113,10 @@ static void go_alone(void)
 static int serve_alone(struct session *session, int begun)
 {
     struct stay *stay = session->stay;
+    sigset_t mask;
     int status = STATUS_BROKEN;
 
+    set_signals(&mask); /* before its process is named, so that a signal ends it as any session */
     go_alone();
     write_owner(&stay->home);
     if (listen_at(stay->listener) == 0 && write(begun, "", 1) == 1) {
