@@ -211,7 +211,7 @@ rasp-typed : (g : ℕ) (d : Option ℕ) (s : List ℕ) → rasp_of (map (typed_b
 rasp-typed g d [] = refl
 rasp-typed g d (c ∷ s) = rasp-typed g d s
 
-rasp-runs : (t : List ℕ) (r : PartialText) (xs : List Run) → rooms xs ≡ length r → rasp_of (cells_of t r xs) ≡ r
+pub rasp-runs : (t : List ℕ) (r : PartialText) (xs : List Run) → rooms xs ≡ length r → rasp_of (cells_of t r xs) ≡ r
 rasp-runs t [] [] e = refl
 rasp-runs t (m ∷ r) [] e = absurd (omega (arith, e))
 rasp-runs t r (Held n d ∷ xs) e =

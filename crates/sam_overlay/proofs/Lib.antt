@@ -6,4 +6,5 @@ pub mod GapLaws
 pub mod CallLaws
 pub mod RequestLaws
 pub mod QueueLaws
+pub mod MarkLaws
 pub mod OrderLaws

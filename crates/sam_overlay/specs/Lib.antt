@@ -6,4 +6,5 @@ pub mod Overlays
 pub mod Faults
 pub mod Requests
 pub mod Calls
+pub mod Marks
 pub mod Ordered

@@ -1,13 +1,17 @@
 -- An overlay whose requests stand in one order with the edits, and what its calls do.
-use Rattle.std.specs.Prelude.{◌≡◌, ◌^◌, ◌-◌, ℕ, max, List, [], ◌∷◌, ◌++◌, Option, Some, None, Result, Ok, Err, slice_get}
+use Rattle.std.specs.Prelude.{◌≡◌, ◌^◌, ◌-◌, ℕ, max, List, [], ◌∷◌, ◌++◌, map, Option, Some, None, Result, Ok, Err, slice_get}
 use Rattle.sam_runes.specs.Checks.{Checks}
 use Rattle.sam_runes.specs.Slots.{slot}
 use Rattle.sam_pending.specs.Cells.{Cell, text_at}
 use Rattle.sam_term.specs.declared.event.UserEvent.{UserEvent}
 use Rattle.sam_term.specs.declared.event.UserEvent.TheVariants as event
 use Rattle.sam_endpoint.specs.TermStepping.{BringsEvent}
+use Rattle.sam_endpoint.specs.declared.fault.EndpointFault.{EndpointFault}
+use Rattle.sam_endpoint.specs.declared.fault.TermStop.{TermStop}
 use Rattle.sam_overlay.specs.Calls.{CanAct, FindsText, Keeps, cells_at, new_overlay, replace_checks, shown_at}
+use Rattle.sam_overlay.specs.Marks.{moved_by}
 use Rattle.sam_overlay.specs.Outcomes.{newest_in, newest_over}
+use Rattle.sam_overlay.specs.Overlays.{step_effect}
 use Rattle.sam_overlay.specs.Requests.{is_closing, is_leaving, next_group, shared_write}
 use Rattle.sam_overlay.specs.declared.fault.ReplaceFault.{ReplaceFault}
 use Rattle.sam_overlay.specs.declared.fault.ReplaceFault.TheVariants as refuses
@@ -17,6 +21,7 @@ use Rattle.sam_overlay.specs.declared.ordered.OrderedOverlay.{OrderedOverlay}
 use Rattle.sam_overlay.specs.declared.request.Request.{Request}
 use Rattle.sam_overlay.specs.declared.shown_change.Asked.{Asked}
 use Rattle.sam_overlay.specs.declared.shown_change.Asked.TheVariants as asked
+use Rattle.sam_overlay.specs.declared.shown_change.OverlayStep.{OverlayStep}
 use Rattle.sam_overlay.specs.declared.shown_change.Turn.{Turn}
 use Rattle.sam_overlay.specs.declared.shown_change.Turn.TheVariants as turn
 
@@ -97,3 +102,10 @@ ActsNext o (Err (unput.Stopped why)) n = (o.overlay.end.stop ≡ Some why) × (n
 ActsNext o (Err unput.TooLong) n = ⊥
 ActsNext o (Err unput.CountFull) n = (o.overlay.end.events ≡ 2 ^ 64 - 1) × (n ≡ o)
 ActsNext o (Err unput.OutOfMemory) n = n ≡ o
+
+-- ## Steps
+
+-- the requests after a step: as the host changes a text, the places move that they name in it
+abbrev pub queue_after : OrderedOverlay → Result OverlayStep (EndpointFault TermStop) → List Request
+queue_after o (Ok x) = map (moved_by o.overlay (step_effect o.overlay.end x.step)) o.queue
+queue_after o (Err why) = o.queue

@@ -2,6 +2,7 @@
 
 ghost use Rattle.sam_overlay.specs.Effects.{CellsFollow, WaitingStays};
 ghost use Rattle.sam_overlay.specs.Calls.{RestsShow};
+ghost use Rattle.sam_overlay.specs.Marks.{InsertionsMovePlaces};
 ghost use Rattle.sam_overlay.specs.Requests.{RequestsFindTheirText};
 ghost use Rattle.sam_overlay.specs.Outcomes.{TypedShows};
 ghost use Rattle.sam_overlay.specs.Frames.{FramesMoveRasps};
@@ -42,4 +43,11 @@ pub fn rests_show()
 #[tactic(auto, using(crate::proofs::RequestLaws::requests_find_their_text))]
 pub fn requests_find_their_text()
     ensures { RequestsFindTheirText }
+{}
+
+/// States where a place, of the text that a request comes to, goes as the host puts members into the rasp: the text before it is what stood
+/// before it, with what came in before the place. `sam_pending::laws::places_stay_behind_their_text` says the same of removals.
+#[tactic(auto, using(crate::proofs::MarkLaws::insertions_move_places))]
+pub fn insertions_move_places()
+    ensures { InsertionsMovePlaces }
 {}

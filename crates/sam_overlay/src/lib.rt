@@ -6,6 +6,7 @@ mod fault;
 mod frame_plan;
 pub mod laws;
 mod layers;
+mod marks;
 mod ordered;
 mod outcome;
 mod overlay;

@@ -5,7 +5,7 @@ ghost use Rattle.sam_runes.specs.Checks.{first_of_checks};
 ghost use Rattle.sam_pending.specs.Cells.{IsTakenBack};
 ghost use Rattle.sam_endpoint.specs.TermStepping.{Steps};
 ghost use Rattle.sam_overlay.specs.Calls.{Brings, CellsGo, DropsUpTo, Keeps, KeepsTexts, PutsUpTo, cells_at, shown_at};
-ghost use Rattle.sam_overlay.specs.Ordered.{ActsNext, IsAsked, NoneFinds, closing_group, most_waiting_requests, new_ordered, ordered_checks, shared_with};
+ghost use Rattle.sam_overlay.specs.Ordered.{ActsNext, IsAsked, NoneFinds, closing_group, most_waiting_requests, new_ordered, ordered_checks, queue_after, shared_with};
 ghost use Rattle.sam_overlay.specs.Outcomes.{Leads, Replaces};
 ghost use Rattle.sam_overlay.specs.Overlays.{StopsOnly, end_step, is_request, told_at};
 ghost use Rattle.sam_overlay.specs.Requests.{put_limit};
@@ -15,6 +15,7 @@ use crate::layers::Place;
 use crate::overlay::Overlay;
 use crate::request::{Request, RequestQueue};
 use crate::shown_change::{Asked, OverlayStep, Put, Turn};
+use crate::steps::is_received;
 use sam_endpoint::{BringFault, EndpointFault, TermStop};
 use sam_pending::{Dropped, PendingFault};
 use sam_term::{Refusal, UserEvent};
@@ -104,7 +105,7 @@ impl OrderedOverlay {
     }
 
     /// Takes a request in behind the others. It finds what is shown now. Paste, cut and text of files but the command file are no requests
-    /// (see `is_request`). A place that it names is one of the text that it finds, and does not move with the host's changes.
+    /// (see `is_request`). A place that it names is one of the text that it finds, and moves with it (see `step`).
     ///
     /// A write shares one that waits, and none is added, where it would find the same text: where of the requests that concern its file the
     /// youngest is a write, and no edit of the file was made behind that. Then the answer is that write's place among the requests that
@@ -154,8 +155,8 @@ impl OrderedOverlay {
     }
 
     /// Has the oldest request act, if all edits before it are put and no lock holds it out: it leaves the queue, and is the one event that
-    /// the end holds. So the next `step` has it act, or refuses it, unless a frame is brought before; no edit is put meanwhile. Else it
-    /// waits on, and the others with it.
+    /// the end holds. So the next `step` has it act, or refuses it, unless a frame is brought before, which moves none of its places; no
+    /// edit is put meanwhile. Else it waits on, and the others with it.
     ///
     /// Errors, in this order, after which all is as before: `Stopped`; `CountFull` if 2^64-1 events were taken before; `OutOfMemory`.
     pub fn act_next(&mut self) -> Result<Turn, PutFault>
@@ -195,7 +196,7 @@ impl OrderedOverlay {
     }
 
     /// Takes back runes for which the host left no room, as `Overlay::drop_next` does, but none that stand behind a request which concerns
-    /// the file.
+    /// the file. Places that requests name stay.
     ///
     /// The only error is `OutOfMemory`; after it all is as before.
     pub fn drop_next(&mut self, tag: u16) -> Result<Option<Dropped>, PendingFault>
@@ -208,7 +209,12 @@ impl OrderedOverlay {
         self.overlay.drop_up_to(tag, limit)
     }
 
-    /// Goes on by one step, as `Overlay::step` does. An edit that was put changes no text that a request behind it comes to.
+    /// Goes on by one step, as `Overlay::step` does. An edit that was put changes no text that a request behind it comes to. A change of
+    /// the host's moves the places that requests name, with the text of their file that they come to: those behind what comes in or goes
+    /// move, and a range of which all goes is empty there. How many runes a `View` or a `Load` names stays.
+    ///
+    /// Errors are those of that call, in its order; after each what waits is as before.
+    #[tactic(auto, using(crate::proofs::MarkLaws::step_facts))]
     pub fn step(&mut self) -> Result<OverlayStep, EndpointFault<TermStop>>
         ensures step { Steps self.old.overlay.end (end_step result) self.new.overlay.end }
         ensures cells { IfOk result (λ x. CellsGo self.old.overlay x self.new.overlay) }
@@ -216,10 +222,23 @@ impl OrderedOverlay {
         ensures told { IfOk result (λ x. (f : ℕ)
             → Leads (told_at x f) (shown_at self.old.overlay f) (shown_at self.new.overlay f)) }
         ensures texts { OnOk result (KeepsTexts self.old.overlay self.new.overlay) }
-        ensures queue { self.new.queue ≡ self.old.queue }
+        ensures queue { self.new.queue ≡ queue_after self.old result }
         ensures err { OnErr result (Keeps self.old.overlay self.new.overlay × StopsOnly self.old.overlay.end self.new.overlay.end) }
     {
-        self.overlay.step()
+        if let Some(why) = self.overlay.end().stopped() {
+            return Err(EndpointFault::Stopped(why));
+        }
+        if self.overlay.end().first_frame().is_none() {
+            return self.overlay.step();
+        }
+        let Ok(marks) = self.queue.marks_after(self.alloc, &self.overlay) else {
+            return Err(EndpointFault::Unfinished);
+        };
+        let step = self.overlay.step()?;
+        if is_received(step.step) {
+            self.queue.put_marks(marks.as_slice());
+        }
+        Ok(step)
     }
 
     /// Takes a piece of the host's stream, as `Overlay::bring` does. Errors are those of that call, in its order.

@@ -11,11 +11,15 @@ ghost use Rattle.sam_endpoint.specs.TermEndpoints.{IsDone};
 ghost use Rattle.sam_endpoint.specs.TermStepping.{Steps};
 ghost use Rattle.sam_overlay.specs.Calls.{Asks, Brings, CanAct, CellsGo, FindsText, IsIdle, IsReady, KeepsTexts, Drops, DropsUpTo, IsFree, IsNotNow, Keeps, is_free, Puts, PutsUpTo, IsShownFrom, cells_at, gap_from, gap_in, has_edit_at, new_overlay, replace_checks, shown_at, waiting_at};
 ghost use Rattle.sam_overlay.specs.Outcomes.{IsNextKept, IsNextWaiting, Leads, Replaces, ReplacesFrom, newest_in, newest_over};
-ghost use Rattle.sam_overlay.specs.Overlays.{StopsOnly, end_step, is_request, told_at};
+ghost use Rattle.sam_overlay.specs.Effects.{plan_of};
+ghost use Rattle.sam_overlay.specs.Marks.{place_after};
+ghost use Rattle.sam_overlay.specs.Overlays.{StopsOnly, end_step, first_effect, is_request, told_at};
 ghost use Rattle.sam_term.specs.Term.{is_known, is_open, rasp_at};
 
 use crate::fault::{PutFault, ReplaceFault};
+use crate::frame_plan::FilePlan;
 use crate::layers::{Layers, Place};
+use crate::marks::{place_in_pending, place_in_rasp};
 use crate::request::concerns;
 use crate::shown_change::{OverlayStep, Put};
 use crate::steps::{quiet, step_edit, step_over};
@@ -346,6 +350,28 @@ impl Overlay {
         ensures { result ≡ newest_in (slot self.now.layers tag) }
     {
         self.layers.newest_at(tag)
+    }
+
+    /// Returns where a place, of the text of a file that a request of the group comes to, goes as the end takes the oldest frame that
+    /// waits; it stays if none does.
+    #[tactic(auto, using(crate::proofs::MarkLaws::begin_stays))]
+    pub(crate) fn place_after(&self, tag: u16, group: u32, place: u32) -> u32
+        ensures { result ≡ place_after group (plan_of (first_effect self.now.end.waiting tag)) (cells_at self.now tag) place }
+    {
+        if place == 0 {
+            return 0;
+        }
+        let Some(frame) = self.end.first_frame() else {
+            return place;
+        };
+        let file = FilePlan::of(&frame.msg);
+        if file.tag != tag {
+            return place;
+        }
+        match self.layers.at(tag) {
+            Some(pending) => place_in_pending(pending, group, file.plan, place),
+            None => place_in_rasp(rasp_len(self.end.term(), tag), file.plan, place),
+        }
     }
 
     /// Returns whether an event that stands behind the edits up to a group can act at once; then it finds the text that a request of that

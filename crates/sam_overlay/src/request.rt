@@ -1,10 +1,13 @@
 //! Requests of the user that wait, and which edits stand before them.
 
-ghost use Rattle.std.specs.Prelude.{◌≡◌, ◌++◌, ◌<◌, ◌+◌, ◌^◌, ◌∷◌, [], IfSome, IsTrue, None, OnErr, OnOk, Some, if◌then◌else◌, true, drop, length, option_copied, slice_get};
-ghost use Rattle.sam_overlay.specs.Overlays.{is_request};
+ghost use Rattle.std.specs.Prelude.{◌≡◌, ◌++◌, ◌<◌, ◌+◌, ◌^◌, ◌∷◌, [], IfOk, IfSome, IsTrue, None, OnErr, OnOk, Some, if◌then◌else◌, true, drop, length, map, option_copied, slice_get};
+ghost use Rattle.sam_overlay.specs.Marks.{marked, marks_after};
+ghost use Rattle.sam_overlay.specs.Overlays.{first_effect, is_request};
 ghost use Rattle.sam_overlay.specs.Requests.{AreAsked, closes, concerns, is_closing, is_leaving, leaves, next_group, put_limit, serves, shared_write, writes};
 ghost use Rattle.sam_term.specs.Events.{file_of, waits_for_all};
 
+use crate::marks::{Marks, marks_of, put_marks};
+use crate::overlay::Overlay;
 use sam_term::UserEvent;
 use std::alloc::{AllocError, Global};
 use std::marker::Model;
@@ -81,8 +84,8 @@ impl RequestQueue {
         is_leaving(self.waiting.as_slice())
     }
 
-    /// Returns the place, the oldest at 0, of the write of a file that another write of it shares, where `newest` is the newest group of the
-    /// edits that wait over the file; `None` if there is none.
+    /// Returns the place, the oldest at 0, of the write of a file that another write of it shares, where `newest` is the newest group of
+    /// the edits that wait over the file; `None` if there is none.
     pub fn shared_write(&self, tag: u16, newest: u32) -> Option<usize>
         ensures { result ≡ shared_write self.now tag newest }
     {
@@ -110,6 +113,23 @@ impl RequestQueue {
         Ok(())
     }
 
+    /// Returns where the places of each request go as the end takes the oldest frame that waits. The only error is out of memory.
+    pub fn marks_after(&self, alloc: Global, overlay: &Overlay) -> Result<Vec<Marks>, AllocError>
+        ensures { IfOk result (λ marks.
+            marks.items ≡ map (marks_after overlay.now (first_effect overlay.now.end.waiting)) self.now) }
+    {
+        marks_after(alloc, self.waiting.as_slice(), overlay)
+    }
+
+    /// Puts other places into the requests, one after another.
+    #[tactic(auto, using(crate::proofs::MarkLaws::put_facts))]
+    pub fn put_marks(&mut self, marks: &[Marks])
+        requires { length marks.now ≡ length self.old }
+        ensures { self.new ≡ marked marks.now self.old }
+    {
+        put_all_marks(&mut self.waiting, marks);
+    }
+
     /// Lets the oldest go, if there is one.
     #[tactic(auto, using(crate::proofs::QueueLaws::fewer_asked))]
     pub fn drop_first(&mut self)
@@ -118,6 +138,47 @@ impl RequestQueue {
         if !self.waiting.is_empty() {
             let _request = self.waiting.remove(0);
         }
+    }
+}
+
+/// Returns where the places of each request go as the end takes the oldest frame that waits. The only error is out of memory.
+fn marks_after(
+    alloc: Global,
+    requests: &[Request],
+    overlay: &Overlay,
+) -> Result<Vec<Marks>, AllocError>
+    ensures { IfOk result (λ marks.
+        marks.items ≡ map (marks_after overlay.now (first_effect overlay.now.end.waiting)) requests.now) }
+{
+    let mut marks = Vec::new(alloc);
+    for request in requests {
+        marks.push(request_marks(overlay, request))?;
+    }
+    Ok(marks)
+}
+
+/// Returns where the places of a request go as the end takes the oldest frame that waits.
+fn request_marks(overlay: &Overlay, request: &Request) -> Marks
+    ensures { result ≡ marks_after overlay.now (first_effect overlay.now.end.waiting) request.now }
+{
+    let marks = marks_of(&request.event);
+    match file_of(&request.event) {
+        None => marks,
+        Some(tag) => Marks {
+            p: overlay.place_after(tag, request.group, marks.p),
+            q: overlay.place_after(tag, request.group, marks.q),
+        },
+    }
+}
+
+/// Puts other places into the requests, one after another.
+#[tactic(auto, using(crate::proofs::MarkLaws::mark_facts))]
+fn put_all_marks(requests: &mut Vec<Request>, marks: &[Marks])
+    requires { length marks.now ≡ length requests.old.items }
+    ensures { requests.new.items ≡ marked marks.now requests.old.items }
+{
+    for index in 0..marks.len() {
+        put_marks(&mut requests[index].event, marks[index]);
     }
 }
 

@@ -16,7 +16,7 @@ use sam_endpoint::{Change, EndpointFault, TermEndpoint, TermStep, TermStop};
 use std::alloc::Global;
 
 /// Returns whether a step received a frame.
-fn is_received(step: TermStep) -> bool
+pub(crate) fn is_received(step: TermStep) -> bool
     ensures { result ≡ is_received step }
 {
     match step {

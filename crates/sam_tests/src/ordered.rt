@@ -3,6 +3,7 @@ use sam_endpoint::{HostEndpoint, TermStep};
 use sam_overlay::{
     AskFault, Asked, MOST_WAITING_REQUESTS, OrderedOverlay, Put, ReplaceFault, Turn, is_request,
 };
+use sam_runes::Runes;
 use sam_term::{Refusal, UserEvent};
 use sam_test_support::lent;
 use std::alloc::Global;
@@ -10,6 +11,7 @@ use std::alloc::Global;
 /// The user's side, and the host of its files.
 #[derive(Drop)]
 struct Sides {
+    alloc: Global,
     front: OrderedOverlay,
     host: HostEndpoint,
 }
@@ -23,7 +25,12 @@ enum Wish {
     Write(u16),
     Close(u16),
     Search(u16),
+    Select(u16, u32, u32),
     Command,
+    /// A command line that puts `ab` at the begin of the work file.
+    InsertLine,
+    /// One that takes the second and the third rune out of it.
+    DeleteLine,
     Leave,
 }
 
@@ -62,35 +69,46 @@ enum Step<'a> {
     Shows(u16, u32),
     /// How many runes the host saved of a file at its last write.
     Saved(u16, usize),
+    /// From where to where the dot of a file is.
+    Dot(u16, u32, u32),
 }
 
 /// How many steps a test makes at most until nothing is left to do.
 const MOST_STEPS: u32 = 100;
 
-fn event_of(wish: Wish) -> UserEvent {
-    match wish {
+fn event_of(alloc: Global, wish: Wish) -> Option<UserEvent> {
+    Some(match wish {
         Wish::Version => UserEvent::Version(2),
         Wish::Open(tag) => UserEvent::Open(tag),
         Wish::Load(tag) => UserEvent::Load(tag, 0, 5),
         Wish::Write(tag) => UserEvent::Write(tag),
         Wish::Close(tag) => UserEvent::Close(tag),
         Wish::Search(tag) => UserEvent::Search(tag),
+        Wish::Select(tag, p, q) => UserEvent::Select(tag, p, q),
         Wish::Command => UserEvent::OpenCmd,
+        Wish::InsertLine => return line(alloc, &['0', 'i', '/', 'a', 'b', '/', '\n']),
+        Wish::DeleteLine => return line(alloc, &['#', '1', ',', '#', '3', 'd', '\n']),
         Wish::Leave => UserEvent::Exit,
+    })
+}
+
+fn line(alloc: Global, runes: &[char]) -> Option<UserEvent> {
+    match Runes::from_slice(alloc, runes) {
+        Ok(text) => Some(UserEvent::Typed(0, text)),
+        Err(_) => None,
     }
 }
 
-fn ask(front: &mut OrderedOverlay, wish: Wish) -> Result<Asked, AskFault> {
-    let event = event_of(wish);
-    if !is_request(&event) {
-        return Err(AskFault::OutOfMemory);
+fn ask(sides: &mut Sides, wish: Wish) -> Result<Asked, AskFault> {
+    match event_of(sides.alloc, wish) {
+        Some(event) if is_request(&event) => sides.front.ask(event),
+        _ => Err(AskFault::OutOfMemory),
     }
-    front.ask(event)
 }
 
-fn ask_many(front: &mut OrderedOverlay, wish: Wish, count: usize) -> bool {
+fn ask_many(sides: &mut Sides, wish: Wish, count: usize) -> bool {
     for _ in 0..count {
-        if ask(front, wish) != Ok(Asked::New) {
+        if ask(sides, wish) != Ok(Asked::New) {
             return false;
         }
     }
@@ -134,16 +152,25 @@ fn saved(host: &HostEndpoint, tag: u16) -> Option<usize> {
 
 /// Whether a call is taken on, or a look has its answer.
 fn is_right(sides: &mut Sides, step: Step<'_>) -> bool {
-    let front = &mut sides.front;
     match step {
-        Step::Ask(wish) => ask(front, wish) == Ok(Asked::New),
-        Step::Shares(wish, place) => ask(front, wish) == Ok(Asked::Shares(place)),
-        Step::Unasked(wish, why) => ask(front, wish) == Err(why),
-        Step::AskMany(wish, count) => ask_many(front, wish, count),
+        Step::Ask(wish) => ask(sides, wish) == Ok(Asked::New),
+        Step::Shares(wish, place) => ask(sides, wish) == Ok(Asked::Shares(place)),
+        Step::Unasked(wish, why) => ask(sides, wish) == Err(why),
+        Step::AskMany(wish, count) => ask_many(sides, wish, count),
+        Step::Do(wish) => {
+            ask(sides, wish).is_ok() && act(&mut sides.front, Turn::Request) && carry(sides)
+        }
+        Step::Travel => carry(sides),
+        Step::Saved(tag, count) => saved(&sides.host, tag) == Some(count),
+        _ => is_right_in_front(&mut sides.front, step),
+    }
+}
+
+/// The same of a step of the user's side alone.
+fn is_right_in_front(front: &mut OrderedOverlay, step: Step<'_>) -> bool {
+    match step {
         Step::Act(turn) => act(front, turn),
         Step::Waiting(count) => front.waiting() == count,
-        Step::Do(wish) => { ask(front, wish).is_ok() && act(front, Turn::Request) && carry(sides) }
-        Step::Travel => carry(sides),
         Step::Replace(tag, p, q, runes) => front.replace(tag, p, q, runes).is_ok(),
         Step::Refused(tag, why) => front.replace(tag, 0, 0, &['x']) == Err(why),
         Step::Put(tag, answer) => front.put_next(tag) == Ok(answer) && go_on(front),
@@ -154,7 +181,8 @@ fn is_right(sides: &mut Sides, step: Step<'_>) -> bool {
             None => false,
         },
         Step::Shows(tag, len) => front.overlay().shown_len(tag) == Some(len),
-        Step::Saved(tag, count) => saved(&sides.host, tag) == Some(count),
+        Step::Dot(tag, p, q) => front.overlay().end().term().dot(tag) == Some((p, q)),
+        _ => false,
     }
 }
 
@@ -174,6 +202,7 @@ fn sides_of(alloc: Global) -> Option<Sides> {
     host.add_file(b"one", b"hello").ok()?;
     host.add_file(b"two", b"again").ok()?;
     Some(Sides {
+        alloc,
         front: OrderedOverlay::new(alloc),
         host,
     })
@@ -306,6 +335,59 @@ const WRITES_APART: [Step<'_>; 16] = [
     Step::Waiting(5),
 ];
 
+/// While a command line puts `ab` before `hello` the user types `!` and selects `ell`: that is selected, two places further on.
+const PLACE_BEHIND_AN_INSERTION: [Step<'_>; 15] = [
+    Step::Do(Wish::Version),
+    Step::Do(Wish::Open(1)),
+    Step::Do(Wish::Load(1)),
+    Step::Do(Wish::Command),
+    Step::Ask(Wish::InsertLine),
+    Step::Act(Turn::Request),
+    Step::Replace(1, 5, 5, &['!']),
+    Step::Ask(Wish::Select(1, 1, 4)),
+    Step::Replace(1, 0, 0, &['?']),
+    Step::Act(Turn::NotYet),
+    Step::Travel,
+    Step::Shows(1, 9),
+    Step::Put(1, Put::Edit),
+    Step::Act(Turn::Request),
+    Step::Dot(1, 3, 6),
+];
+
+/// While a command line takes `el` out the user types `X` between the two, selects `eXl`, and then `el` of what was there before. Of the
+/// first range `X` is left, and the second one is empty where it stood.
+const RANGE_THAT_GOES: [Step<'_>; 17] = [
+    Step::Do(Wish::Version),
+    Step::Do(Wish::Open(1)),
+    Step::Do(Wish::Load(1)),
+    Step::Do(Wish::Command),
+    Step::Ask(Wish::DeleteLine),
+    Step::Act(Turn::Request),
+    Step::Ask(Wish::Select(1, 1, 3)),
+    Step::Replace(1, 2, 2, &['X']),
+    Step::Ask(Wish::Select(1, 1, 4)),
+    Step::Travel,
+    Step::Shows(1, 4),
+    Step::Act(Turn::Request),
+    Step::Dot(1, 1, 1),
+    Step::Act(Turn::NotYet),
+    Step::Put(1, Put::Edit),
+    Step::Act(Turn::Request),
+    Step::Dot(1, 1, 2),
+];
+
+/// A file is opened, and at once `ell` of it is selected: that, though the text comes only then.
+const PLACE_IN_A_TEXT_TO_COME: [Step<'_>; 8] = [
+    Step::Do(Wish::Version),
+    Step::Ask(Wish::Open(1)),
+    Step::Ask(Wish::Select(1, 1, 4)),
+    Step::Act(Turn::Request),
+    Step::Act(Turn::NotYet),
+    Step::Travel,
+    Step::Act(Turn::Request),
+    Step::Dot(1, 1, 4),
+];
+
 /// So many requests wait and not one more, and none is taken in while an edit has to act. A write that shares one is still taken.
 const TOO_MANY: [Step<'_>; 11] = [
     Step::Do(Wish::Version),
@@ -330,6 +412,9 @@ fn requests_act_behind_edits(rt: HostRuntime) {
         WRITE_BEHIND_A_CLOSE.as_slice(),
         WRITES_SHARE.as_slice(),
         WRITES_APART.as_slice(),
+        PLACE_BEHIND_AN_INSERTION.as_slice(),
+        RANGE_THAT_GOES.as_slice(),
+        PLACE_IN_A_TEXT_TO_COME.as_slice(),
         TOO_MANY.as_slice(),
     ] {
         let wrong = match sides_of(rt.alloc()) {
