@@ -12,3 +12,4 @@ pub mod Serving
 pub mod Recoveries
 pub mod Programs
 pub mod Heirs
+pub mod Journals

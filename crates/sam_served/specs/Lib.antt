@@ -7,3 +7,4 @@ pub mod Serving
 pub mod Sessions
 pub mod Turns
 pub mod Heirs
+pub mod Journals

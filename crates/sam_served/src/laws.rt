@@ -5,6 +5,7 @@
 ghost use Rattle.sam_served.specs.Crashes.{CrashesAreBreaks, EndsAreMade};
 ghost use Rattle.sam_served.specs.Gates.{GateIsCounted};
 ghost use Rattle.sam_served.specs.Heirs.{HeirsAreServed};
+ghost use Rattle.sam_served.specs.Journals.{JournalsAreCrashes};
 ghost use Rattle.sam_served.specs.Marks.{GatesKeepTheRule, MarksAreRight};
 ghost use Rattle.sam_served.specs.Programs.{ProgramsAreServed};
 ghost use Rattle.sam_served.specs.Recoveries.{RecoveriesAreCrashes, RecoveriesGoOn};
@@ -79,4 +80,10 @@ pub fn programs_are_served()
 /// whatever calls follow, with any crashes, are a session of the definition too.
 pub fn heirs_are_served()
     ensures { HeirsAreServed }
+{}
+
+/// States that a crash of a program that keeps its records in a file of sam_journal is a crash of the program: of whatever front the crash
+/// leaves, with all that was durable, `read` answers the first so many records, and their bodies lead on.
+pub fn journals_are_crashes()
+    ensures { JournalsAreCrashes }
 {}

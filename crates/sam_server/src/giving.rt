@@ -11,7 +11,7 @@ use crate::record::Record;
 use crate::server::{DurableServer, Stage};
 use sam_endpoint::AddFault;
 use sam_host::Host;
-use sam_link::NoteFault;
+use sam_link::{Link, NoteFault};
 
 impl DurableServer {
     /// Adds a file under the next tag, and returns the tag, as `HostEndpoint::add_file` does.
@@ -84,6 +84,13 @@ impl DurableServer {
         ensures { result.now ≡ self.now.turn.server.host.host }
     {
         self.turn.host.host()
+    }
+
+    /// Lends the host's end of the link, to be read.
+    pub fn link(&self) -> &Link
+        ensures { result.now ≡ self.now.turn.server.link }
+    {
+        self.turn.link.link()
     }
 
     /// Takes note that the effect is done, with a number of the program's for how it ended, and handles what waited behind it.

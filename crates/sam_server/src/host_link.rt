@@ -61,6 +61,13 @@ impl HostLink {
         }
     }
 
+    /// Lends the end, to be read.
+    pub(crate) fn link(&self) -> &Link
+        ensures { result.now ≡ self.now }
+    {
+        &self.link
+    }
+
     /// Takes the connection of this hello, or returns why it is refused.
     pub(crate) fn answer(&mut self, hello: &Hello) -> Result<(), Refusal>
         ensures { Answered self.old hello.now result self.new }
