@@ -203,10 +203,11 @@ enum sam_status {
     SAM_JOURNAL_TORN = SAM_JOURNAL + 6,          /* no whole record of this number stands there */
     SAM_JOURNAL_TOO_LONG = SAM_JOURNAL + 7,      /* a body of 2^32 bytes or more */
 
-    SAM_SERVER = 288,                       /* why a durable server has stopped, or a record is not taken again */
-    SAM_SERVER_COUNT_FULL = SAM_SERVER + 1, /* its stream or the terminal's would have 2^64 bytes, and it has stopped */
-    SAM_SERVER_NO_RECORD = SAM_SERVER + 2,  /* sam_recovery_take: the bytes are those of no record */
-    SAM_SERVER_NOT_TAKEN = SAM_SERVER + 3,  /* sam_recovery_take: the records before it lead to no server that takes it */
+    SAM_SERVER = 288,                         /* why a durable server has stopped, hands nothing on, or a record is not taken again */
+    SAM_SERVER_COUNT_FULL = SAM_SERVER + 1,   /* its stream or the terminal's would have 2^64 bytes, and it has stopped */
+    SAM_SERVER_NO_RECORD = SAM_SERVER + 2,    /* sam_recovery_take: the bytes are those of no record */
+    SAM_SERVER_NOT_TAKEN = SAM_SERVER + 3,    /* sam_recovery_take: the records before it lead to no server that takes it */
+    SAM_SERVER_EFFECT_WAITS = SAM_SERVER + 4, /* sam_server_heir: an effect is to be done before */
 
     SAM_STATUS_WIDTH = 0x7FFFFFFF /* never returned: it keeps the type at 32 bits under any compiler's options */
 };
@@ -1567,11 +1568,13 @@ SAM_MUST_USE sam_status sam_client_replace(sam_client *client, uint16_t tag, uin
 
 /* Asks for what is no edit: an event of an overlay (enum sam_event_kind), with its text if it brings one. It stands in one order with the
  * edits: it acts as the client goes on, once all edits before it are put, and finds the text that is shown now, with the host's changes
- * since. A place that it names is one of that text, and doesn't move with them. Requests act in the order in which they were asked for; a
- * write that would find the same text as one that waits is that one. Refused, in this order, and the client is then as it was: SAM_NOT_TEXT
- * if the text is not UTF-8; SAM_NO_MEMORY if there is no memory for its runes; SAM_NONE if no event has this kind; SAM_WAITING while an
- * edit was put that has not acted: go on first; SAM_TOO_MANY if 1,000 requests wait; SAM_COUNT_FULL if 2^32-1 were taken while edits or
- * requests waited; SAM_NO_MEMORY. */
+ * since. A place that it names is one of that text, and moves with it as the host changes the text: what comes in at the place itself
+ * stands behind it, and a range of which all goes is empty there. A place past the end of the text doesn't move: it is one of a text to
+ * come, as of a file that is asked to be opened just before. Requests act in the order in which they were asked for; a write that would
+ * find the same text as one that waits is that one. Refused, in this order, and the client is then as it was: SAM_NOT_TEXT if the text is
+ * not UTF-8; SAM_NO_MEMORY if there is no memory for its runes; SAM_NONE if no event has this kind; SAM_WAITING while an edit was put that
+ * has not acted: go on first; SAM_TOO_MANY if 1,000 requests wait; SAM_COUNT_FULL if 2^32-1 were taken while edits or requests waited;
+ * SAM_NO_MEMORY. */
 SAM_MUST_USE sam_status sam_client_ask(sam_client *client, const sam_event *event, const uint8_t *text, size_t len);
 
 /* Takes back the next insertion that waits over a file, if an edit could act at once and the file has no room for this one, because the
@@ -1961,6 +1964,30 @@ SAM_MUST_USE sam_status sam_server_saved_len(sam_server *server, uint16_t tag, u
 SAM_MUST_USE sam_status sam_server_saved(sam_server *server, uint16_t tag, uint32_t place, uint8_t *into, size_t room, size_t *bytes,
                                          uint32_t *runes);
 
+/* Hands out whether the terminal has opened the file. Returns SAM_NONE if the tag has no file. */
+SAM_MUST_USE sam_status sam_server_is_open(sam_server *server, uint16_t tag, bool *open);
+
+/* Hands out the length of the snarf buffer in runes. */
+SAM_MUST_USE sam_status sam_server_snarf_len(sam_server *server, uint32_t *runes);
+
+/* Copies the snarf buffer from the place `place` on, as sam_host_snarf does. */
+SAM_MUST_USE sam_status sam_server_snarf(sam_server *server, uint32_t place, uint8_t *into, size_t room, size_t *bytes, uint32_t *runes);
+
+/* ---- A durable server: readers of its link ---- */
+
+/* Hands out the number of the newest connection, or 0 before the first. */
+SAM_MUST_USE sam_status sam_server_attempt(sam_server *server, uint64_t *attempt);
+
+/* Hands out the number of bytes that were put for the terminal, heads of packets included, also of those whose records are not durable. */
+SAM_MUST_USE sam_status sam_server_put_count(sam_server *server, uint64_t *count);
+
+/* Hands out the number of these bytes that the terminal has acknowledged. A program that is about to end says its last message, and waits
+ * until this number is that of sam_server_put_count. */
+SAM_MUST_USE sam_status sam_server_acknowledged(sam_server *server, uint64_t *count);
+
+/* Hands out the number of bytes of the terminal's stream that have come. */
+SAM_MUST_USE sam_status sam_server_received(sam_server *server, uint64_t *count);
+
 /* ---- A durable server: made again of its records ---- */
 
 /* Begins with the server of a session that has taken nothing. The id is that of the session whose records they are. Refused, in this order:
@@ -1979,6 +2006,19 @@ SAM_MUST_USE sam_status sam_recovery_take(sam_recovery *recovery, const uint8_t 
  * handles are then as they were: SAM_NO_HANDLE if one of them is NULL, or the recovery's is empty; SAM_MADE if the server's is made
  * already; SAM_NO_MEMORY. */
 SAM_MUST_USE sam_status sam_recovery_finish(sam_recovery *recovery, sam_server *server);
+
+/* ---- A durable server: another terminal takes over ---- */
+
+/* Makes in an empty handle, which is not that of this server, a server of another session that begins with the texts of this one, for a
+ * terminal that takes them over. All files but the command file join it with the names and the texts that they have, in the order of their
+ * tags: from tag 1 on, with no gap. Each makes a record, and these begin a journal of its own. So the texts are taken over once that journal
+ * has the name of the old one. This server is as it was, and can go on until then. Which files are dirty, what was written last, selections
+ * and the command file stay behind: mark a file as dirty once the terminal has its name.
+ *
+ * Refused, in this order, and both handles are then as they were: SAM_NO_HANDLE if one of them is NULL, or this server's is empty; SAM_MADE
+ * if the other is made already; SAM_WAITING if earlier work is left, for sam_server_go_on; SAM_SERVER_EFFECT_WAITS if an effect is not done,
+ * also one that is not handed out yet; SAM_NO_MEMORY. A server that has stopped hands its texts on, too. */
+SAM_MUST_USE sam_status sam_server_heir(sam_server *server, const uint8_t id[SAM_LINK_ID_BYTES], sam_server *heir);
 
 /* ==== Scripts ==== */
 

@@ -104,6 +104,7 @@ const char *sam_status_text(sam_status status)
         TEXT(SAM_SERVER_COUNT_FULL, "a stream of the durable server would have 2^64 bytes, and it has stopped");
         TEXT(SAM_SERVER_NO_RECORD, "the bytes are those of no record of a durable server");
         TEXT(SAM_SERVER_NOT_TAKEN, "the records before it lead to no server that takes this record");
+        TEXT(SAM_SERVER_EFFECT_WAITS, "an effect of the durable server is to be done before");
     }
     return "unknown status";
 }

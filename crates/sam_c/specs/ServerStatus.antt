@@ -1,10 +1,13 @@
 -- The numbers by which C knows what came of a call of a server or of a recovery.
 use Rattle.std.specs.Prelude.{ℕ, Result, Ok, Err}
+use Rattle.sam_server.specs.DurableServers.{PlainDurableServer}
 use Rattle.sam_server.specs.Servers.{Server}
 use Rattle.sam_server.specs.declared.fault.CallFault.{CallFault}
 use Rattle.sam_server.specs.declared.fault.CallFault.TheVariants as call
 use Rattle.sam_server.specs.declared.fault.GoOnFault.{GoOnFault}
 use Rattle.sam_server.specs.declared.fault.GoOnFault.TheVariants as go_on
+use Rattle.sam_server.specs.declared.fault.HeirFault.{HeirFault}
+use Rattle.sam_server.specs.declared.fault.HeirFault.TheVariants as heir
 use Rattle.sam_server.specs.declared.recovery.RecoveryFault.{RecoveryFault}
 use Rattle.sam_server.specs.declared.recovery.RecoveryFault.TheVariants as recovery
 use Rattle.sam_server.specs.declared.turn.Stop.{Stop}
@@ -39,3 +42,13 @@ recovery_fault recovery.OutOfMemory = no_memory
 abbrev pub recovery_status : Result Server RecoveryFault → ℕ
 recovery_status (Ok server) = ok
 recovery_status (Err why) = recovery_fault why
+
+-- why another server doesn't begin with the texts of one
+abbrev pub heir_fault : HeirFault → ℕ
+heir_fault heir.Waiting = waiting
+heir_fault heir.EffectWaits = 292
+heir_fault heir.OutOfMemory = no_memory
+
+abbrev pub heir_status : Result PlainDurableServer HeirFault → ℕ
+heir_status (Ok server) = ok
+heir_status (Err why) = heir_fault why

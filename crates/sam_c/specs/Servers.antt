@@ -1,6 +1,7 @@
 -- What the calls of a server and of a recovery do.
 use Rattle.std.specs.Prelude.{◌≡◌, ◌⊎◌, ◌==◌, ℕ, List, ◌++◌, length, drop, slice_get, Bool, true, false, nat_lt, if◌then◌else◌, IfOk, Option, Some, None, Result, Ok, Err}
 use Rattle.std.specs.Result.{result_ok}
+use Rattle.sam_link.specs.End.{End}
 use Rattle.sam_link.specs.Hellos.{ReadsHello}
 use Rattle.sam_link.specs.Sessions.{IsId}
 use Rattle.sam_link.specs.declared.fault.FeedFault.{FeedFault}
@@ -13,16 +14,18 @@ use Rattle.sam_link.specs.declared.keeping.PutFault.{PutFault}
 use Rattle.sam_endpoint.specs.HostEndpoints.{PlainHostEndpoint}
 use Rattle.sam_endpoint.specs.declared.fault.AddFault.{AddFault}
 use Rattle.sam_server.specs.DurableServers.{GoesOn, PlainDurableServer, RefusesFile, RefusesHello, TakesOutDurable, TakesRecord, effect_due}
+use Rattle.sam_server.specs.Heirs.{Inherits}
 use Rattle.sam_server.specs.Records.{Called, Joined, PlainRecord}
 use Rattle.sam_server.specs.Recovering.{Retakes, recovered}
 use Rattle.sam_server.specs.Servers.{Effect, Hear, Server, Write}
 use Rattle.sam_server.specs.declared.fault.CallFault.{CallFault}
 use Rattle.sam_server.specs.declared.fault.GoOnFault.{GoOnFault}
+use Rattle.sam_server.specs.declared.fault.HeirFault.{HeirFault}
 use Rattle.sam_server.specs.declared.recovery.RecoveryFault.{RecoveryFault}
 use Rattle.sam_c.specs.Calls.{AtHandle}
 use Rattle.sam_c.specs.LinkStatus.{feed_status, link_refusal, note_status, out_status, put_status}
 use Rattle.sam_c.specs.Links.{WithHello, handed_or, id_bytes}
-use Rattle.sam_c.specs.ServerStatus.{call_status, go_on_status, recovery_status}
+use Rattle.sam_c.specs.ServerStatus.{call_status, go_on_status, heir_status, recovery_status}
 use Rattle.sam_c.specs.Status.{ok, no_memory, is_made, no_handle, no_room, nothing, add_status}
 use Rattle.sam_c.specs.declared.server_effects.SamEffect.{SamEffect}
 
@@ -34,6 +37,9 @@ MadeWith new (Some e) bytes status after = (status ≡ is_made) × (after ≡ So
 
 abbrev pub host_of : PlainDurableServer → PlainHostEndpoint
 host_of d = d.turn.server.host
+
+abbrev pub link_of : PlainDurableServer → End
+link_of d = d.turn.server.link
 
 -- ## What a server takes
 
@@ -159,3 +165,16 @@ FinishesInto s None status left after =
 abbrev pub RecoveryFinished : Option Server → Option PlainDurableServer → ℕ → Option Server → Option PlainDurableServer → Type 0
 RecoveryFinished None server status left after = (status ≡ no_handle) × (left ≡ None) × (after ≡ server)
 RecoveryFinished (Some s) server status left after = FinishesInto s server status left after
+
+-- ## A takeover
+
+-- another server begins in an empty handle with the texts of this one, or there is none and the handle is as before
+abbrev pub InheritsInto : PlainDurableServer → List ℕ → Option PlainDurableServer → ℕ → Option PlainDurableServer → Type 0
+InheritsInto d bytes (Some e) status after = (status ≡ is_made) × (after ≡ Some e)
+InheritsInto d bytes None status after =
+    (id : Id) × IsId id × (id_bytes id ≡ bytes)
+    × (result : Result PlainDurableServer HeirFault) × Inherits d id result × (status ≡ heir_status result) × (after ≡ result_ok result)
+
+abbrev pub ServerInherited : Option PlainDurableServer → List ℕ → Option PlainDurableServer → ℕ → Option PlainDurableServer → Type 0
+ServerInherited None bytes heir status after = (status ≡ no_handle) × (after ≡ heir)
+ServerInherited (Some d) bytes heir status after = InheritsInto d bytes heir status after

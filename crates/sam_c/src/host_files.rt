@@ -42,6 +42,17 @@ pub(crate) fn tell_is_dirty(host: &Host, tag: u16, dirty: &mut bool) -> u32
     }
 }
 
+/// Hands out whether the terminal has a window on a file.
+pub(crate) fn tell_is_open(host: &Host, tag: u16, open: &mut bool) -> u32
+    ensures { TellsOne (option_map (λ f. f.opened) (slot host.now.files.slots tag)) result open.old open.new }
+{
+    if host.files().has(tag) {
+        tell(host.files().is_open(tag), open)
+    } else {
+        NONE
+    }
+}
+
 /// Puts the first runes of a file's text from a place on into the buffer.
 pub(crate) fn tell_file_text(
     host: &Host,

@@ -32,6 +32,7 @@ mod scripts;
 mod server_calls;
 mod server_effects;
 mod server_handle;
+mod server_heir;
 mod server_readers;
 mod server_records;
 mod server_status;

@@ -2,18 +2,20 @@
 //! Each returns `SAM_NO_HANDLE` if the handle is empty; after that, and after `SAM_NONE`, what its other arguments lead to is as it was. Places
 //! count runes from the beginning of the text.
 
-ghost use Rattle.std.specs.Prelude.{◌≡◌, drop, is_some, length, option_map};
+ghost use Rattle.std.specs.Prelude.{◌≡◌, ◌+◌, Some, drop, is_some, length, option_map};
 ghost use Rattle.sam_c.specs.Buffers.{countable};
 ghost use Rattle.sam_c.specs.Calls.{Reports, ReportsName, ReportsSome, ReportsText, written};
 ghost use Rattle.sam_c.specs.Hosts.{file_of, saved_of};
-ghost use Rattle.sam_c.specs.Servers.{host_of};
+ghost use Rattle.sam_c.specs.Servers.{host_of, link_of};
 
 use crate::handle::with_end;
 use crate::host_files::{
-    tell_file_len, tell_file_name, tell_file_text, tell_is_dirty, tell_saved, tell_saved_len,
+    tell_file_len, tell_file_name, tell_file_text, tell_is_dirty, tell_is_open, tell_saved,
+    tell_saved_len,
 };
 use crate::server_handle::SamServer;
 use crate::status::{NO_HANDLE, OK};
+use crate::utf8::{count, countable, runes_from, tell_text};
 use std::alloc::Global;
 
 /// Hands out whether the session is over: the terminal has sent Texit, or a command line was `q`.
@@ -158,4 +160,105 @@ pub extern "C" fn sam_server_saved(
     with_end!(server alloc end {
         tell_saved(end.host(), tag, place, into, bytes, runes)
     })
+}
+
+/// Hands out whether the terminal has a window on the file: it has opened it. `SAM_NONE` if the tag has no file.
+#[unsafe(no_mangle)]
+pub extern "C" fn sam_server_is_open(
+    server: &mut SamServer,
+    tag: u16,
+    open: &mut bool,
+    alloc: Global,
+) -> u32
+    ensures told { ReportsSome server.old.held.end result open.old open.new (λ d. option_map (λ f. f.opened) (file_of (host_of d) tag)) }
+    ensures kept { server.new.held.end ≡ server.old.held.end }
+{
+    with_end!(server alloc end {
+        tell_is_open(end.host(), tag, open)
+    })
+}
+
+/// Hands out how many runes the snarf buffer has.
+#[unsafe(no_mangle)]
+pub extern "C" fn sam_server_snarf_len(
+    server: &mut SamServer,
+    runes: &mut u32,
+    alloc: Global,
+) -> u32
+    ensures told { Reports server.old.held.end result runes.old runes.new (λ d. length (countable (host_of d).host.files.snarf)) }
+    ensures kept { server.new.held.end ≡ server.old.held.end }
+{
+    with_end!(server alloc end {
+        *runes = count(countable(end.host().files().snarf_text().as_slice()));
+        OK
+    })
+}
+
+/// Puts what the snarf buffer has, from a place on, into the buffer in UTF-8, as many whole runes as have room. Hands out how many bytes
+/// and how many runes.
+#[unsafe(no_mangle)]
+pub extern "C" fn sam_server_snarf(
+    server: &mut SamServer,
+    place: u32,
+    into: &mut [u8],
+    bytes: &mut usize,
+    runes: &mut u32,
+    alloc: Global,
+) -> u32
+    ensures told { ReportsText server.old.held.end result (written into.old bytes.old runes.old) (written into.new bytes.new runes.new)
+        (λ d. Some (drop place (countable (host_of d).host.files.snarf))) }
+    ensures kept { server.new.held.end ≡ server.old.held.end }
+{
+    with_end!(server alloc end {
+        tell_text(runes_from(countable(end.host().files().snarf_text().as_slice()), place), into, bytes, runes)
+    })
+}
+
+/// Hands out the number of the newest connection; 0 before the first.
+#[unsafe(no_mangle)]
+pub extern "C" fn sam_server_attempt(
+    server: &mut SamServer,
+    attempt: &mut u64,
+    alloc: Global,
+) -> u32
+    ensures told { Reports server.old.held.end result attempt.old attempt.new (λ d. (link_of d).attempt) }
+    ensures kept { server.new.held.end ≡ server.old.held.end }
+{
+    with_end!(server alloc end { *attempt = end.link().attempt(); OK })
+}
+
+/// Hands out how many bytes were put for the terminal, notes and their heads among them.
+#[unsafe(no_mangle)]
+pub extern "C" fn sam_server_put_count(
+    server: &mut SamServer,
+    count: &mut u64,
+    alloc: Global,
+) -> u32
+    ensures told { Reports server.old.held.end result count.old count.new
+        (λ d. (link_of d).keeps.base + length (link_of d).keeps.kept) }
+    ensures kept { server.new.held.end ≡ server.old.held.end }
+{
+    with_end!(server alloc end { *count = end.link().put_len(); OK })
+}
+
+/// Hands out how many bytes the terminal has acknowledged.
+#[unsafe(no_mangle)]
+pub extern "C" fn sam_server_acknowledged(
+    server: &mut SamServer,
+    count: &mut u64,
+    alloc: Global,
+) -> u32
+    ensures told { Reports server.old.held.end result count.old count.new (λ d. (link_of d).keeps.base) }
+    ensures kept { server.new.held.end ≡ server.old.held.end }
+{
+    with_end!(server alloc end { *count = end.link().acknowledged(); OK })
+}
+
+/// Hands out how many bytes of the terminal's stream have come.
+#[unsafe(no_mangle)]
+pub extern "C" fn sam_server_received(server: &mut SamServer, count: &mut u64, alloc: Global) -> u32
+    ensures told { Reports server.old.held.end result count.old count.new (λ d. (link_of d).received) }
+    ensures kept { server.new.held.end ≡ server.old.held.end }
+{
+    with_end!(server alloc end { *count = end.link().received(); OK })
 }

@@ -1,12 +1,12 @@
 //! The numbers by which C knows what came of a call of a server or of a recovery: include/sulgrevad.h names them.
 
 ghost use Rattle.std.specs.Prelude.{◌≡◌};
-ghost use Rattle.sam_c.specs.ServerStatus.{recovery_fault, stop_status};
+ghost use Rattle.sam_c.specs.ServerStatus.{heir_fault, recovery_fault, stop_status};
 
-use crate::status::{NO_MEMORY, host_stop_status};
-use sam_server::{RecoveryFault, Stop};
+use crate::status::{NO_MEMORY, WAITING, host_stop_status};
+use sam_server::{HeirFault, RecoveryFault, Stop};
 
-/// Added to the number, from 1, of why a server has stopped or a record is not taken again.
+/// Added to the number, from 1, of why a server has stopped, a record is not taken again, or another server doesn't begin.
 const SERVER: u32 = 288;
 
 /// Returns the number of why a server has stopped for good.
@@ -42,5 +42,16 @@ pub(crate) fn recovery_fault(why: RecoveryFault) -> u32
         RecoveryFault::NoRecord => SERVER + 2,
         RecoveryFault::NotTaken => SERVER + 3,
         RecoveryFault::OutOfMemory => NO_MEMORY,
+    }
+}
+
+/// Returns the number of why another server doesn't begin with the texts of one.
+pub(crate) fn heir_fault(why: HeirFault) -> u32
+    ensures { result ≡ heir_fault why }
+{
+    match why {
+        HeirFault::Waiting => WAITING,
+        HeirFault::EffectWaits => SERVER + 4,
+        HeirFault::OutOfMemory => NO_MEMORY,
     }
 }

@@ -407,6 +407,70 @@ static void in_one_order(void)
     free_both();
 }
 
+/* The dot of a file goes from here to there. */
+static void has_dot(uint16_t tag, uint32_t start, uint32_t end)
+{
+    sam_file file;
+    WANT(READ(sam_client_file(&client, tag, &file)), SAM_OK);
+    WANT(file.dot_start, start);
+    WANT(file.dot_end, end);
+}
+
+/* A command line that works on file 1 is on its way, so all is locked. */
+static void command_line(const char *line)
+{
+    sam_event event = {.kind = SAM_EVENT_TYPE_CMD};
+    WANT(sam_client_ask(&client, &event, (const uint8_t *)line, strlen(line)), SAM_OK);
+    go_on();
+}
+
+/* Ranges that are asked for under a lock move with what the host puts in and takes out before them, and not with what is typed later. */
+static void places_move(void)
+{
+    static const uint32_t marks[] = {'!', '?'};
+    open_both("hello", true);
+    WANT(ask_for(SAM_EVENT_WORK, 1, 0, 0), SAM_OK);
+    settle();
+    WANT(ask_for(SAM_EVENT_OPEN_CMD, 0, 0, 0), SAM_OK);
+    settle();
+    command_line("0i/ab/\n");
+    type(5, 0, "!", marks, 1);
+    WANT(ask_for(SAM_EVENT_SELECT, 1, 1, 4), SAM_OK);
+    WANT(requests(), 1);
+    settle();
+    shows(1, "abhello!");
+    has_dot(1, 3, 6);
+    command_line("#3,#5d\n");
+    WANT(ask_for(SAM_EVENT_SELECT, 1, 2, 6), SAM_OK);
+    type(0, 0, "?", marks + 1, 1);
+    WANT(requests(), 1);
+    settle();
+    shows(1, "?abhlo!");
+    has_dot(1, 3, 5); /* `hl`: `?` was put behind the request, so it moved the dot */
+    command_line(",d\n");
+    WANT(ask_for(SAM_EVENT_SELECT, 1, 1, 3), SAM_OK);
+    settle();
+    shows(1, "");
+    has_dot(1, 0, 0);
+    free_both();
+}
+
+/* A file and a range of it may be asked for at once: the range is one of the text that is to come. */
+static void place_in_a_text_to_come(void)
+{
+    uint16_t tag = 0;
+    open_both("hello", true);
+    WANT(sam_host_add_file(&host, BYTES("b"), BYTES("again"), &tag), SAM_OK);
+    WANT(ask_for(SAM_EVENT_OFFER_VERSION, 0, 0, 0), SAM_OK);
+    settle();
+    WANT(ask_for(SAM_EVENT_OPEN, tag, 0, 0), SAM_OK);
+    WANT(ask_for(SAM_EVENT_SELECT, tag, 1, 4), SAM_OK);
+    WANT(requests(), 2);
+    settle();
+    has_dot(tag, 1, 4);
+    free_both();
+}
+
 /* A note comes out behind what had acted when it was put; the host's note behind the frames before it. */
 static void notes(void)
 {
@@ -743,6 +807,8 @@ int main(void)
     bounds();
     typed_under_a_lock();
     in_one_order();
+    places_move();
+    place_in_a_text_to_come();
     notes();
     host_changes();
     taken_back();

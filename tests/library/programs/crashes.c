@@ -22,6 +22,9 @@ static struct {
 } journal[MOST_RECORDS];
 static size_t written, durable;
 
+/* The session of a terminal that takes over. */
+static const uint8_t *const other_id = (const uint8_t *)"another sessions";
+
 /* What came of the host's hello on the newest connection. */
 static uint8_t welcome[SAM_LINK_HELLO_BYTES];
 static size_t welcome_len;
@@ -44,9 +47,11 @@ static void goes_on(const char *what, int line, sam_status status)
 {
     size_t len = 0, count = 9;
     uint8_t bytes[PIECE];
+    sam_server heir = SAM_SERVER_INIT;
     sam_status first = sam_server_record_len(&server, &len);
     while (status == SAM_UNFINISHED) {
         WANT(sam_server_ask(&server), SAM_WAITING);
+        WANT(sam_server_heir(&server, other_id, &heir), SAM_WAITING);
         if (sam_server_take_out(&server, attempt, bytes, sizeof bytes, &count) == SAM_OK)
             WANT(count, 0);
         WANT(sam_server_record_len(&server, &len), first);
@@ -248,6 +253,7 @@ static void same(sam_status status, const uint8_t *bytes, size_t len)
 
 static void ends_well(bool crashed)
 {
+    sam_server heir = SAM_SERVER_INIT;
     uint8_t bytes[32];
     size_t len = 0;
     uint32_t runes = 0;
@@ -262,7 +268,11 @@ static void ends_well(bool crashed)
     WANT(told, 1);
     WANT(writes == 1 || (crashed && writes == 2), 1); /* once more, if the crash forgot that it was done */
     WANT(heard == 1 || (crashed && heard == 2), 1);
+    DONE(sam_server_heir(&server, other_id, &heir));
     WANT(sam_server_free(&server), SAM_OK);
+    status = sam_server_text(&heir, 1, 0, bytes, sizeof bytes, &len, &runes);
+    same(status, bytes, len);
+    WANT(sam_server_free(&heir), SAM_OK);
     WANT(sam_term_free(&term), SAM_OK);
     WANT(sam_link_free(&end), SAM_OK);
 }

@@ -20,10 +20,12 @@ static sam_server server = SAM_SERVER_INIT;
 
 static void no_server(sam_server *none)
 {
+    sam_server heir = SAM_SERVER_INIT;
     uint8_t bytes[8] = "unused";
     size_t len = 5;
     uint16_t tag = 6;
     uint32_t runes = 7;
+    uint64_t count = 10;
     bool is = true;
     sam_effect effect = {8, SAM_EFFECT_HEAR, 9};
     WANT(sam_server_free(none), SAM_NO_HANDLE);
@@ -52,7 +54,16 @@ static void no_server(sam_server *none)
     WANT(sam_server_text(none, 0, 0, bytes, sizeof bytes, &len, &runes), SAM_NO_HANDLE);
     WANT(sam_server_saved_len(none, 0, &runes), SAM_NO_HANDLE);
     WANT(sam_server_saved(none, 0, 0, bytes, sizeof bytes, &len, &runes), SAM_NO_HANDLE);
-    WANT(memcmp(bytes, "unused", 7) == 0 && len == 5 && tag == 6 && runes == 7 && is, 1);
+    WANT(sam_server_heir(none, id, &heir), SAM_NO_HANDLE);
+    WANT(sam_server_free(&heir), SAM_NO_HANDLE);
+    WANT(sam_server_is_open(none, 0, &is), SAM_NO_HANDLE);
+    WANT(sam_server_snarf_len(none, &runes), SAM_NO_HANDLE);
+    WANT(sam_server_snarf(none, 0, bytes, sizeof bytes, &len, &runes), SAM_NO_HANDLE);
+    WANT(sam_server_attempt(none, &count), SAM_NO_HANDLE);
+    WANT(sam_server_put_count(none, &count), SAM_NO_HANDLE);
+    WANT(sam_server_acknowledged(none, &count), SAM_NO_HANDLE);
+    WANT(sam_server_received(none, &count), SAM_NO_HANDLE);
+    WANT(memcmp(bytes, "unused", 7) == 0 && len == 5 && tag == 6 && runes == 7 && count == 10 && is, 1);
     WANT(effect.len == 8 && effect.kind == SAM_EFFECT_HEAR && effect.tag == 9, 1);
 }
 
@@ -149,6 +160,40 @@ static void begins(void)
     OUT(ACKNOWLEDGEMENT "\0\x08" EIGHT("\0"));
 }
 
+#define OTHER_ID "another sessions"
+static const uint8_t *const other_id = (const uint8_t *)OTHER_ID;
+
+/* While an effect waits no other server begins, and both handles stay as they are. */
+static void no_heir_before_the_effect(void)
+{
+    sam_server heir = SAM_SERVER_INIT;
+    uint32_t runes = 99;
+    WANT(sam_server_heir(&server, other_id, &heir), SAM_SERVER_EFFECT_WAITS);
+    WANT(sam_server_free(&heir), SAM_NO_HANDLE);
+    WANT(sam_server_saved_len(&server, 1, &runes), SAM_OK);
+    WANT(runes, 3);
+}
+
+/* So far a note of 2 bytes, a question and an acknowledgement were put: 19 bytes with their heads, which the terminal then acknowledges. */
+static void counts(void)
+{
+    uint64_t count = 99;
+    WANT(READ(sam_server_attempt(&server, &count)), SAM_OK);
+    WANT(count, 1);
+    WANT(READ(sam_server_put_count(&server, &count)), SAM_OK);
+    WANT(count, 19);
+    WANT(READ(sam_server_acknowledged(&server, &count)), SAM_OK);
+    WANT(count, 0);
+    WANT(READ(sam_server_received(&server, &count)), SAM_OK);
+    WANT(count, 0);
+    WANT(sam_server_receive(&server, 1, BYTES(ACKNOWLEDGEMENT "\0\x08" EIGHT("\x13"))), SAM_OK);
+    RECORD("\3" EIGHT("\1") ACKNOWLEDGEMENT "\0\x08" EIGHT("\x13"));
+    WANT(READ(sam_server_acknowledged(&server, &count)), SAM_OK);
+    WANT(count, 19);
+    WANT(READ(sam_server_received(&server, &count)), SAM_OK);
+    WANT(count, 11);
+}
+
 /* An effect is handed out once its record is durable, and what was sent behind it waits until it is done. */
 static void writes(void)
 {
@@ -172,6 +217,7 @@ static void writes(void)
     WANT(len == 3 && runes == 3 && memcmp(bytes, "ba\n", 3) == 0, 1);
     WANT(READ(sam_server_text(&server, 1, 1, bytes, sizeof bytes, &len, &runes)), SAM_OK);
     WANT(len == 2 && runes == 2 && memcmp(bytes, "a\n", 2) == 0, 1); /* "c" waits */
+    no_heir_before_the_effect();
     WANT(sam_server_mark_dirty(&server, 1), SAM_OK);
     WANT(sam_server_effect_done(&server, 258), SAM_OK);
     RECORD("\x08\0\1");
@@ -225,6 +271,61 @@ static void readers(void)
     WANT(len == 4 && runes == 4 && memcmp(bytes, "cba\n", 4) == 0, 1);
     WANT(READ(sam_server_saved_len(&server, 2, &runes)), SAM_NONE);
     WANT(READ(sam_server_saved(&server, 2, 0, bytes, sizeof bytes, &len, &runes)), SAM_NONE);
+    WANT(READ(sam_server_is_open(&server, 2, &is)), SAM_NONE);
+    WANT(READ(sam_server_is_open(&server, 1, &is)), SAM_OK);
+    WANT(is, 1);
+    WANT(READ(sam_server_is_open(&server, 0, &is)), SAM_OK);
+    WANT(is, 0);
+}
+
+/* The terminal gives a snarf buffer of three runes, of which one has two bytes. */
+static void snarfs(void)
+{
+    static const char set_snarf[] = DATA "\0\7\x14\0\4a\xc3\xa9z";
+    uint8_t bytes[8] = "unused";
+    size_t len = 99;
+    uint32_t runes = 99;
+    WANT(READ(sam_server_snarf_len(&server, &runes)), SAM_OK);
+    WANT(runes, 0);
+    WANT(sam_server_receive(&server, 1, BYTES(set_snarf)), SAM_OK);
+    WANT(READ(sam_server_snarf_len(&server, &runes)), SAM_OK);
+    WANT(runes, 3);
+    WANT(READ(sam_server_snarf(&server, 1, bytes, sizeof bytes, &len, &runes)), SAM_OK);
+    WANT(len == 3 && runes == 2 && memcmp(bytes, "\xc3\xa9z", 3) == 0, 1);
+}
+
+/* The other server begins with the file, of which it has a record; no mark and no written text go over, and this one stays as it is. */
+static void hands_on(void)
+{
+    static const char joined[] = "\1" EIGHT("\1") "ncba\n";
+    static const char hello[] = MARK "\3" OTHER_ID EIGHT("\1") EIGHT("\0");
+    sam_server heir = SAM_SERVER_INIT;
+    uint8_t bytes[64];
+    size_t len = 0;
+    uint32_t runes = 0;
+    bool is = true;
+    WANT(sam_server_heir(&server, other_id, NULL), SAM_NO_HANDLE);
+    WANT(sam_server_heir(&server, other_id, &heir), SAM_OK);
+    WANT(sam_server_heir(&server, other_id, &heir), SAM_MADE);
+    WANT(sam_server_tags(&heir, &len), SAM_OK);
+    WANT(len, 2);
+    WANT(sam_server_text(&heir, 1, 0, bytes, sizeof bytes, &len, &runes), SAM_OK);
+    WANT(len == 4 && memcmp(bytes, "cba\n", 4) == 0, 1);
+    WANT(sam_server_is_dirty(&heir, 1, &is), SAM_OK);
+    WANT(is, 0);
+    WANT(sam_server_saved_len(&heir, 1, &runes), SAM_NONE);
+    WANT(sam_server_accept(&heir, BYTES(HELLO("\3", "\1", "\0"))), SAM_LINK_OTHER_SESSION);
+    WANT(sam_server_accept(&heir, BYTES(hello)), SAM_OK);
+    WANT(sam_server_take_out(&heir, 1, bytes, sizeof bytes, &len), SAM_OK);
+    WANT(len, 0); /* no record of it is durable */
+    WANT(sam_server_next_record(&heir, bytes, sizeof bytes, &len), SAM_OK);
+    WANT(len == sizeof joined - 1 && memcmp(bytes, joined, len) == 0, 1);
+    WANT(sam_server_durable(&heir, 2), SAM_OK);
+    WANT(sam_server_take_out(&heir, 1, bytes, sizeof bytes, &len), SAM_OK);
+    WANT(len, SAM_LINK_HELLO_BYTES);
+    WANT(sam_server_free(&heir), SAM_OK);
+    WANT(sam_server_is_dirty(&server, 1, &is), SAM_OK);
+    WANT(is, 1);
 }
 
 /* Packets that are wrong end their connection, and the server goes on with the next; a wrong message stops it for good. */
@@ -234,18 +335,19 @@ static void stops(void)
     WANT(READ(sam_server_broken(&server, 0)), SAM_OK); /* an older connection */
     WANT(sam_server_receive(&server, 1, BYTES("\0")), SAM_LINK_BAD_KIND);
     WANT(sam_server_receive(&server, 1, BYTES("")), SAM_LINK_NOT_OPEN);
-    WANT(sam_server_accept(&server, BYTES(HELLO("\2", "\2", "\0"))), SAM_OK);
+    WANT(sam_server_accept(&server, BYTES(HELLO("\2", "\2", "\x13"))), SAM_OK);
     WANT(sam_server_receive(&server, 2, BYTES(DATA "\0\0")), SAM_LINK_BAD_LENGTH);
-    WANT(sam_server_accept(&server, BYTES(HELLO("\2", "\3", "\0"))), SAM_OK);
+    WANT(sam_server_accept(&server, BYTES(HELLO("\2", "\3", "\x13"))), SAM_OK);
     WANT(sam_server_receive(&server, 3, BYTES(ACKNOWLEDGEMENT "\0\x08" EIGHT("\x63"))), SAM_LINK_ACK_AHEAD);
-    WANT(sam_server_accept(&server, BYTES(HELLO("\2", "\4", "\0"))), SAM_OK);
+    WANT(sam_server_accept(&server, BYTES(HELLO("\2", "\4", "\x13"))), SAM_OK);
     WANT(READ(sam_server_broken(&server, 4)), SAM_OK);
     WANT(sam_server_receive(&server, 4, BYTES("")), SAM_LINK_NOT_OPEN);
-    WANT(sam_server_accept(&server, BYTES(HELLO("\2", "\5", "\0"))), SAM_OK);
+    WANT(sam_server_accept(&server, BYTES(HELLO("\2", "\5", "\x13"))), SAM_OK);
     WANT(sam_server_receive(&server, 5, BYTES(no_file)), SAM_HOST_NO_FILE);
     WANT(sam_server_receive(&server, 5, BYTES("")), SAM_HOST_NO_FILE);
     WANT(sam_server_go_on(&server), SAM_HOST_NO_FILE);
     WANT(sam_server_ask(&server), SAM_HOST_NO_FILE);
+    hands_on(); /* also of a server that has stopped */
     WANT(sam_server_free(&server), SAM_OK);
 }
 
@@ -321,9 +423,12 @@ int main(void)
     WANT(sam_server_new(&server, id), SAM_MADE);
     refused_first();
     begins();
+    counts();
     writes();
     hears();
     readers();
+    hands_on();
+    snarfs();
     stops();
     no_server(&server);
     recovers();

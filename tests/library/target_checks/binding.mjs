@@ -1,39 +1,12 @@
 /* What bindings/javascript promises: results, errors by code, texts, ends, numbers. Node and a page of a browser run it. */
 import * as sulgrevad from "../../../bindings/javascript/sulgrevad.js";
+import { CLIENT_CHECKS } from "./clients.mjs";
+import { bytes, expect, same, throws, throwsPlain } from "./expecting.mjs";
+import { SESSION_CHECKS } from "./sessions.mjs";
 
 const { EventKind, Host, Line, Link, NoteCode, NoteKind, Overlay, Terminal, Status, Tick, What, memory, readHello, readNote } = sulgrevad;
 const { libraryVersion, replay, statusText, writeNote, writeRefusal } = sulgrevad;
 const KEYS = 20000;
-
-function expect(holds, told) {
-  if (!holds) throw new Error(told);
-}
-
-function same(got, wanted) {
-  expect(JSON.stringify(got) === JSON.stringify(wanted), `${JSON.stringify(got)}, wanted ${JSON.stringify(wanted)}`);
-}
-
-function throws(kind, code, call) {
-  try {
-    call();
-  } catch (error) {
-    expect(error instanceof sulgrevad[kind] && error instanceof sulgrevad.SamError && error.name === kind, `${error}, wanted ${kind}`);
-    same(error.code, Status[code]);
-    expect(error.message.startsWith(`SAM_${code}: `), error.message);
-    return error;
-  }
-  throw new Error(`${call} throws nothing, wanted ${kind}`);
-}
-
-function throwsPlain(kind, call) {
-  try {
-    call();
-  } catch (error) {
-    expect(error.constructor === kind, `${error}, wanted ${kind.name}`);
-    return;
-  }
-  throw new Error(`${call} throws nothing, wanted ${kind.name}`);
-}
 
 /** Carries bytes both ways until neither side has any. */
 function carry(terminal, host) {
@@ -269,10 +242,6 @@ function checkEnds() {
   throws("HandleFault", "NO_HANDLE", () => terminal.feed());
   host.free();
   throws("HandleFault", "NO_HANDLE", () => host.addFile("\ud834"));
-}
-
-function bytes(count, value = 0) {
-  return new Uint8Array(count).fill(value);
 }
 
 /** Bytes and notes over two connections, the first of which breaks. */
@@ -566,10 +535,18 @@ const CHECKS = [
   ...[checkTexts, checkFiles, checkEditing, checkLongText, checkRefusals, checkSteps, checkStates, checkNumbers, checkEnds],
   ...[checkOverlay, checkCommandFile, checkTakenBack, checkRefusedOverlay],
   ...[checkLink, checkRefusedLink, checkLine, checkNotes, checkMemory, checkScripts],
+  ...CLIENT_CHECKS,
+  ...SESSION_CHECKS,
 ];
 
 /** Runs all checks. Throws where one fails; returns what was measured. */
-export function checkAll() {
-  for (const check of CHECKS) check();
+export async function checkAll() {
+  for (const check of CHECKS) {
+    try {
+      await check();
+    } catch (error) {
+      throw new Error(`${check.name}: ${error.message}`, { cause: error });
+    }
+  }
   return keyTime();
 }

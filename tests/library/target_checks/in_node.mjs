@@ -22,6 +22,6 @@ async function checkCollected() {
   }
 }
 
-const told = checkAll();
+const told = await checkAll();
 await checkCollected();
 console.log(told);

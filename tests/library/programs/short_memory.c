@@ -1,0 +1,71 @@
+/*
+ * short_memory.c: linked with the archive of the library, by --wrap, into a shared library whose requests for memory are counted, and are
+ * refused now and then, by random numbers.
+ */
+#include <malloc.h>
+#include <stddef.h>
+#include <stdint.h>
+
+void *__real_malloc(size_t size);
+void *__real_realloc(void *old, size_t size);
+void __real_free(void *old);
+void *__wrap_malloc(size_t size);
+void *__wrap_realloc(void *old, size_t size);
+void __wrap_free(void *old);
+
+/* About one request in `one_in` is refused; none if that is 0. */
+void refuse_memory(uint64_t seed, uint32_t one_in);
+/* How many requests were refused. */
+uint64_t refused_memory(void);
+/* How many bytes the library holds. */
+size_t held_memory(void);
+
+static uint64_t state = 1, refused;
+static uint32_t rate;
+static size_t held;
+
+void refuse_memory(uint64_t seed, uint32_t one_in)
+{
+    state = seed * 2654435769U + 88172645463325252U;
+    rate = one_in;
+}
+
+uint64_t refused_memory(void)
+{
+    return refused;
+}
+
+size_t held_memory(void)
+{
+    return held;
+}
+
+static int is_refused(void)
+{
+    state ^= state << 13, state ^= state >> 7, state ^= state << 17;
+    if (rate == 0 || (state >> 33) % rate != 0)
+        return 0;
+    refused++;
+    return 1;
+}
+
+void *__wrap_malloc(size_t size)
+{
+    void *made = is_refused() ? NULL : __real_malloc(size);
+    held += made == NULL ? 0 : malloc_usable_size(made);
+    return made;
+}
+
+void *__wrap_realloc(void *old, size_t size)
+{
+    size_t before = old == NULL ? 0 : malloc_usable_size(old);
+    void *made = is_refused() ? NULL : __real_realloc(old, size);
+    held += made == NULL ? 0 : malloc_usable_size(made) - before;
+    return made;
+}
+
+void __wrap_free(void *old)
+{
+    held -= old == NULL ? 0 : malloc_usable_size(old);
+    __real_free(old);
+}

@@ -1,0 +1,393 @@
+/* What bindings/javascript promises of a session, over sockets of this process that break: promises, events, and texts beside plain
+ * ones. */
+import * as sulgrevad from "../../../bindings/javascript/sulgrevad.js";
+import { library } from "../../../bindings/javascript/module.js";
+import { bytes, expect, isError, rejection, same, throws } from "./expecting.mjs";
+import { Far } from "./far.mjs";
+
+const { Client, EventKind, NoteKind, RequestRefused, Session, SessionLost, SessionOver, Status, writeRefusal } = sulgrevad;
+export const ID = bytes(16, 7);
+const SECONDS = 60; // that something may take
+const BREAKS = 40;
+
+const pause = (milliseconds = 0) => new Promise((resolve) => setTimeout(resolve, milliseconds));
+
+async function until(holds, told) {
+  const last = performance.now() + 1000 * SECONDS;
+  while (!holds()) {
+    expect(performance.now() < last, `not within ${SECONDS} s: ${told}`);
+    await pause(1);
+  }
+}
+
+/** A socket to the far side, as a WebSocket looks. */
+class Socket {
+  readyState = 0;
+  bufferedAmount = 0;
+  onopen = null;
+  onmessage = null;
+  onclose = null;
+
+  constructor(net) {
+    this.net = net;
+    setTimeout(() => this.#open());
+  }
+
+  #open() {
+    if (this.readyState !== 0) return;
+    if (this.net.refuses) {
+      this.end();
+      return;
+    }
+    this.readyState = 1;
+    this.net.far.begin();
+    this.onopen?.();
+  }
+
+  send(piece) {
+    expect(this.readyState === 1, "a socket that isn't open sends");
+    setTimeout(() => this.#carry(piece));
+  }
+
+  #carry(piece) {
+    if (this.readyState !== 1 || this.net.swallows) return;
+    this.net.apart(() => this.net.far.take(piece));
+    this.flush();
+  }
+
+  /** What the far side has comes back. */
+  flush() {
+    const back = this.net.apart(() => this.net.far.out());
+    for (let at = 0; at < back.length; at += this.net.most) {
+      const { buffer } = back.slice(at, at + this.net.most);
+      if (back.length <= this.net.most) this.onmessage?.({ data: buffer });
+      else setTimeout(() => this.onmessage?.({ data: buffer }));
+    }
+  }
+
+  close() {
+    this.readyState = 3;
+  }
+
+  /** It breaks. */
+  end() {
+    if (this.readyState === 3) return;
+    this.readyState = 3;
+    this.onclose?.();
+  }
+}
+
+/** A network of one host. */
+export class Net {
+  refuses = false; // it makes no connection
+  swallows = false; // it takes all and brings nothing
+  most = 65_536; // bytes that it brings together
+  apart = (work) => work(); // does what the far side does
+  sockets = [];
+
+  constructor(files) {
+    this.far = new Far(ID, files);
+    this.far.tell({ kind: NoteKind.SESSION, number: 1, path: bytes(1, 65), text: "box" });
+  }
+
+  connect = () => {
+    const socket = new Socket(this);
+    this.sockets.push(socket);
+    return socket;
+  };
+
+  cut() {
+    this.sockets.at(-1)?.end();
+  }
+
+  /** The host's program has told something. */
+  flush() {
+    this.sockets.at(-1).flush();
+  }
+}
+
+/** An editor's own text, which takes splices, and tells of edits; a gap is a sign of its own. */
+class Editor {
+  runes = [];
+
+  constructor(session, tag) {
+    Object.assign(this, { session, tag });
+    session.addEventListener("splice", ({ detail }) => detail.tag === tag && this.#take(detail));
+  }
+
+  #take({ kind, place, count }) {
+    const came = kind === "came" || kind === "filled" ? this.session.client.read(this.tag, place, count) : [];
+    if (kind === "emptied") this.runes = [];
+    else this.runes.splice(place, kind === "came" ? 0 : count, ...came);
+  }
+
+  replace(start, end, text) {
+    this.session.replace(this.tag, start, end, text);
+    this.runes.splice(start, end - start, ...text);
+  }
+
+  get text() {
+    return this.runes.join("");
+  }
+}
+
+async function begun(files, options = {}) {
+  const net = new Net(files);
+  const session = new Session(net.connect, { id: ID, ...options });
+  const editor = new Editor(session, 1);
+  const document = await session.open(Object.keys(files)[0]);
+  return { net, session, editor, document };
+}
+
+async function checkSession() {
+  const { net, session, editor, document } = await begun({ notes: "hëllo 𝄞", other: "" });
+  same([document.tag, document.name, document.isOpen, document.length, document.text()], [1, "notes", true, 7, "hëllo 𝄞"]);
+  same([editor.text, await session.open("notes") === document, session.documents.length], ["hëllo 𝄞", true, 1]);
+  same([document.firstGap(), document.text(1, 2), session.line.state, session.id === ID], [null, "ël", Client.OPEN, true]);
+  editor.replace(0, 1, "J");
+  document.insert(7, "!");
+  document.replace(5, 6, "");
+  same([document.text(), document.isUnsaved, session.isUnsaved(1), session.hasAll], ["Jëllo𝄞!", true, true, false]);
+  await until(() => session.hasAll, "the host has all");
+  same(net.far.host.text(1), "Jëllo𝄞!");
+  const { kind, tag, text } = await document.write();
+  same([kind, tag, text, document.isUnsaved, net.far.host.saved(1)], [NoteKind.SAVED, 1, "saved", false, "Jëllo𝄞!"]);
+  const { up, down, waiting, isConnecting } = session.traffic;
+  same([up > 0, down > 0, waiting, isConnecting, session.isWaiting, session.dueIn], [true, true, 0, true, false, null]);
+  await session.closeDocument(document);
+  same([document.isOpen, session.documents.length], [false, 0]);
+  net.far.host.addFile("late", "x".repeat(9000));
+  await session.know(3);
+  isError(await rejection(session.know(9)), "Missing", "NONE");
+  const late = session.document(3);
+  await late.opened;
+  await Promise.all([late.load(0, 5000), session.load(3, 8000, 9000)]);
+  same([late.name, late.text(0, 5000).length, late.text(8000).length], ["late", 5000, 1000]);
+  session.leave();
+}
+
+/** A write has the text that is shown when it is asked for, and what is typed behind it shows at once. Two of one text are one. */
+async function checkWrites() {
+  const { net, session, document } = await begun({ a: "one" });
+  const first = document.write();
+  document.insert(3, " two");
+  const [second, third] = [document.write(), document.write()];
+  document.insert(7, " three");
+  same(document.text(), "one two three");
+  await first;
+  await second;
+  same([net.far.host.saved(1), (await third) === (await second), document.isUnsaved], ["one two", true, true]);
+  net.far.fails = true;
+  const error = await rejection(document.write());
+  same([error instanceof RequestRefused, error.note.kind, error.message, document.isUnsaved], [true, NoteKind.NOT_SAVED, "full", true]);
+  net.far.fails = false;
+  net.most = 5; // so that the frames of a write come after its message
+  await document.write();
+  same([net.far.host.saved(1), document.isUnsaved], ["one two three", false]);
+  const written = new Promise((resolve) => session.addEventListener("note", () => resolve(document.write()), { once: true }));
+  await session.ask(NoteKind.COMPLETE, { path: bytes(1, 65) });
+  same((await written).kind, NoteKind.SAVED); // it was asked for while the session went on
+  session.leave();
+}
+
+/** What a command line prints is its answer; it finds the text that is shown. */
+async function checkRuns() {
+  const { net, session, editor, document } = await begun({ a: "hello\n" });
+  editor.replace(0, 0, "> ");
+  same([await document.run(",x/l/c/L/"), document.text(), editor.text], ["", "> heLLo\n", "> heLLo\n"]);
+  same([await document.run("/heLL/p"), await document.run(",p")], ["heLL", "> heLLo\n"]);
+  const [long, wrong] = await Promise.all([document.run(`,x/L/c/${"l".repeat(700)}/`), document.run("nonsense")]);
+  same([long, wrong.startsWith("?"), net.far.host.text(1)], ["", true, `> he${"l".repeat(1400)}o\n`]);
+  await document.load();
+  const all = document.text();
+  for (let run = 0; run < 100; run++) expect((await document.run(",p")) === all, `run ${run} prints something else`);
+  expect(session.client.len(0) < 102_000, "what was printed is kept for good");
+  same((await rejection(document.run("a\nb"))).constructor, RangeError);
+  session.leave();
+}
+
+async function checkRefusedRequests() {
+  const { session, document } = await begun({ a: "hello" });
+  const error = await rejection(session.open("nowhere"));
+  same([error instanceof RequestRefused, error.message], [true, "there is no nowhere"]);
+  isError(await rejection(session.open("a\u0000b")), "NoteFault", "NOTE_BAD_PATH");
+  isError(await rejection(session.request(EventKind.SELECT, { tag: 1, start: 3, number: 9 })), "EditRefused", "REFUSAL_BAD_POSITION");
+  isError(await rejection(session.document(9).opened), "EditRefused", "REFUSAL_NO_FILE");
+  throws("EditRefused", "REFUSAL_BAD_POSITION", () => document.replace(3, 6, "x"));
+  const names = await session.ask(NoteKind.COMPLETE, { path: new TextEncoder().encode("a") });
+  same(names.kind, NoteKind.NAMES);
+  session.tell(NoteKind.RELOADED, { tag: 1, number: 2 });
+  const closing = document.close();
+  isError(await rejection(document.run("1")), "Missing", "NONE");
+  isError(await rejection(document.write()), "EditRefused", "REFUSAL_NO_FILE");
+  await closing;
+  session.leave();
+}
+
+let state = 1;
+function chance(below) {
+  state = (Math.imul(state, 1103515245) + 12345) >>> 0;
+  return (state >>> 8) % below;
+}
+
+/** Connections break at any moment, and edits go on: at the end both sides have what the same edits make of a plain text. */
+async function checkBreaks() {
+  const { net, session, editor } = await begun({ a: "0123456789\n".repeat(50) });
+  const plain = [...editor.text];
+  const states = new Set();
+  session.addEventListener("line", ({ detail }) => states.add(detail.state));
+  let writes = 0;
+  for (let breaks = 0; breaks < BREAKS; breaks++) {
+    for (let edits = chance(6); edits > 0; edits--) {
+      const [start, text] = [chance(plain.length), ["a", "é𝄞", "", "long ".repeat(30)][chance(4)]];
+      const end = Math.min(plain.length, start + chance(5));
+      plain.splice(start, end - start, ...text);
+      editor.replace(start, end, text);
+      if (chance(3) === 0) await pause();
+    }
+    if (chance(4) === 0) session.write(1).then(() => writes++);
+    if (chance(2)) await pause(chance(4));
+    net.cut();
+    session.addressChanged(); // so that the pause is short
+  }
+  await session.write(1);
+  await until(() => session.hasAll, "the host has all");
+  same([editor.text === plain.join(""), net.far.host.text(1) === editor.text, net.far.host.saved(1) === editor.text], [true, true, true]);
+  same([session.client.text(1) === editor.text, states.has(Client.DOWN), states.has(Client.OPEN)], [true, true, true]);
+  session.leave();
+}
+
+/** A long text is loaded by itself while nobody types, and first what a window shows. */
+async function checkLoading() {
+  const net = new Net({ long: "a line of text\n".repeat(8000) });
+  const session = new Session(net.connect, { id: ID });
+  const editor = new Editor(session, 1);
+  const tag = await session.join("long");
+  const document = session.document(tag);
+  await document.opened;
+  session.see(tag, 60_000, 64_000);
+  session.noteKey(); // slices wait for a while
+  await until(() => document.firstGap(60_000) !== 60_000, "what is seen is loaded");
+  expect(document.firstGap() < 60_000, "what is seen is loaded last");
+  await until(() => document.firstGap() === null, "the rest is loaded");
+  same(editor.text === net.far.host.text(tag), true);
+  session.leave();
+}
+
+async function checkDropped() {
+  const { net, session, editor } = await begun({ a: "hello" });
+  const dropped = [];
+  session.addEventListener("dropped", ({ detail }) => dropped.push(detail));
+  net.swallows = true;
+  const running = session.run(1, `,x/hello/c/${"w".repeat(100)}/`);
+  await pause(5);
+  for (let at = 0; at < 10; at++) editor.replace(0, 0, "x".repeat(99_999)); // with the line there is no room for all
+  const shown = editor.runes.length;
+  net.swallows = false;
+  net.cut();
+  await running;
+  await until(() => session.hasAll && dropped.length > 0, "what has no room is given back");
+  same([shown, editor.text === net.far.host.text(1), dropped.map(({ text }) => text.length)], [999_995, true, [99_999]]);
+  session.leave();
+}
+
+async function ends(told, net = new Net({ a: "hello" })) {
+  const session = new Session(net.connect, { id: ID });
+  const document = await session.open("a");
+  net.swallows = true;
+  const waiting = document.write();
+  const heard = [];
+  session.addEventListener("over", ({ detail }) => heard.push(detail));
+  net.far.tell(told);
+  net.flush();
+  const why = await session.over;
+  same([(await rejection(waiting)) === why, session.why === why, session.isOver], [true, true, true]);
+  same([heard.length, heard[0] === why, (await rejection(session.open("a"))) === why, document.text()], [1, true, true, "hello"]);
+  session.leave();
+  session.addressChanged();
+  return why;
+}
+
+async function checkEnds() {
+  const ended = await ends({ kind: NoteKind.ENDED, number: 5 });
+  same([ended instanceof SessionOver, ended.status, ended.message], [true, 5, "the host has ended the session"]);
+  const taken = await ends({ kind: NoteKind.TAKEN_OVER, text: "attic" });
+  same([taken instanceof SessionLost, taken.code, taken.by], [true, Status.LINK_OTHER_SESSION, "attic"]);
+  const unmade = new Session(() => {
+    throw new TypeError("no address");
+  });
+  same([(await unmade.over).cause.message, await rejection(unmade.close().then(() => Promise.reject(1)))], ["no address", 1]);
+  const early = new Session(() => {
+    const socket = new Net({}).connect();
+    socket.send = (hello) => setTimeout(() => socket.onmessage({ data: writeRefusal(Status.LINK_NO_SESSION, hello).buffer }));
+    return socket;
+  });
+  const lost = await early.over;
+  same([lost instanceof SessionLost, lost.code], [true, Status.LINK_NO_SESSION]);
+  const other = new Net({});
+  other.far = new Far(ID, {});
+  other.far.tell({ kind: NoteKind.SAID, text: "hello" });
+  same((await new Session(other.connect, { id: ID }).over).message, "the host is of another version: both sides have to be of one release");
+}
+
+async function checkClose() {
+  const { net, session, editor } = await begun({ a: "hello" });
+  editor.replace(0, 0, "typed ");
+  const closing = session.close();
+  await until(() => net.far.host.isDone, "the host is done");
+  net.far.tell({ kind: NoteKind.ENDED });
+  net.flush();
+  await closing;
+  same([net.far.host.text(1), (await session.over).status], ["typed hello", 0]);
+  await until(() => net.far.link.acknowledged === net.far.link.putCount, "the host knows that its last message has come");
+  await session.close();
+}
+
+/** A line that takes all and brings nothing is given up within seconds of a change of the network. */
+async function checkAddressChanged() {
+  const { net, session, editor } = await begun({ a: "hello" });
+  net.swallows = true;
+  editor.replace(0, 0, "typed ");
+  session.addressChanged();
+  await until(() => net.sockets.length > 1, "another connection is made");
+  net.swallows = false;
+  await until(() => session.hasAll, "the host has all");
+  same([net.far.host.text(1), net.sockets[0].readyState], ["typed hello", 3]);
+  session.leave();
+}
+
+/** Memory that is out for a while loses nothing: what was taken goes on later, and a piece that wasn't comes over another connection. */
+async function checkSessionsMemory() {
+  const { net, session, editor, document } = await begun({ a: "hello" });
+  const isTyped = (text) => {
+    try {
+      editor.replace(0, 0, text);
+      return true;
+    } catch (error) {
+      return !isError(error, "NoMemory", "NO_MEMORY");
+    }
+  };
+  let refuse = () => library.heap_refuse(0n, 0n);
+  net.apart = (work) => {
+    library.heap_refuse(0n, 0n);
+    const done = work();
+    refuse();
+    return done;
+  };
+  for (let round = 0; round < 30; round++) {
+    await until(() => isTyped(`${round} `), "there is memory again");
+    refuse = () => library.heap_refuse(BigInt(1 + (round % 7)), 3n);
+    refuse();
+    await pause(2);
+    refuse = () => library.heap_refuse(0n, 0n);
+    refuse();
+  }
+  await until(() => session.hasAll, "the host has all");
+  same([net.far.host.text(1) === editor.text, document.text() === editor.text], [true, true]);
+  session.leave();
+}
+
+export const SESSION_CHECKS = [
+  ...[checkSession, checkWrites, checkRuns, checkRefusedRequests, checkBreaks, checkLoading, checkDropped],
+  ...[checkEnds, checkClose, checkAddressChanged, checkSessionsMemory],
+];
