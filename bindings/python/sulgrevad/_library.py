@@ -194,6 +194,9 @@ SIGNATURES: Dict[str, Tuple[Any, ...]] = {
     "server_is_done": (_BOOL,), "server_tags": (_SIZE,), "server_has_file": (c_uint16, _BOOL),
     "server_name": (c_uint16, *_BUFFER, _SIZE), "server_len": (c_uint16, _U32), "server_is_dirty": (c_uint16, _BOOL),
     "server_text": (c_uint16, *_TEXT_FROM), "server_saved_len": (c_uint16, _U32), "server_saved": (c_uint16, *_TEXT_FROM),
+    "server_heir": (c_char_p, POINTER(Handle)),
+    "server_is_open": (c_uint16, _BOOL), "server_snarf_len": (_U32,), "server_snarf": _TEXT_FROM,
+    "server_attempt": (_U64,), "server_put_count": (_U64,), "server_acknowledged": (_U64,), "server_received": (_U64,),
     "recovery_new": (c_char_p,), "recovery_free": (), "recovery_take": _BYTES, "recovery_finish": (POINTER(Handle),),
 }  # fmt: skip
 

@@ -111,9 +111,11 @@ class Client(Clocked, Shown, Stopping):
         self, kind: EventKind, tag: int = 0, start: int = 0, number: int = 0, *, version: int = 0, text: Text = ""
     ) -> None:
         """Asks for what is no edit. It stands in one order with the edits: it acts as the client goes on, once all edits before it are put,
-        and finds the text that is shown now, with the host's changes since. The arguments are those of `bring_event` of an overlay. Raises,
-        in this order, and the client is then as it was: NotText; NoMemory; Missing if no event has this kind; Waiting while an edit was put
-        that has not acted: go on first; TooMany if 1,000 requests wait; CountFull; NoMemory."""
+        and finds the text that is shown now, with the host's changes since. A place that it names moves with that text: what the host puts
+        in at the place itself stands behind it, and a range of which all goes is empty there; a place past the end of the text stays. The
+        arguments are those of `bring_event` of an overlay. Raises, in this order, and the client is then as it was: NotText; NoMemory;
+        Missing if no event has this kind; Waiting while an edit was put that has not acted: go on first; TooMany if 1,000 requests wait;
+        CountFull; NoMemory."""
         event = event_of(kind, tag, start, number, version)
         data = bytes_of(text)
         self._call("ask", byref(event), data, len(data))

@@ -6,7 +6,7 @@ from typing import List, NamedTuple, Optional
 
 from sulgrevad._library import LIBRARY, Place
 from sulgrevad.carrier import ID_BYTES, MOST_PIECE, NOT_YET, Bytes, Carrier, id_of
-from sulgrevad.sides import OK, least
+from sulgrevad.sides import OK, Counts, least
 from sulgrevad.status import Status, error_of
 
 HELLO_BYTES = 42
@@ -63,7 +63,7 @@ def write_refusal(status: int, data: Bytes) -> bytes:
     return into.raw
 
 
-class Link(Carrier):
+class Link(Counts, Carrier):
     """One end of a link, which carries bytes and notes over connections that may break at any byte: each comes out at the other side once
     and in order. It opens no connection and knows no clock. The terminal's side opens a connection and calls, the host's answers.
 
@@ -195,27 +195,6 @@ class Link(Carrier):
         return self._number("phase", c_uint32)
 
     @property
-    def attempt(self) -> int:
-        """Returns the number of the newest connection, or 0 before the first."""
-        return self._number("attempt", c_uint64)
-
-    @property
-    def put_count(self) -> int:
-        """Returns the number of bytes of this side's stream, heads of packets included."""
-        return self._number("put_count", c_uint64)
-
-    @property
-    def acknowledged(self) -> int:
-        """Returns the number of bytes of this side's stream that the other side has acknowledged. All bytes that were put by some time have
-        come once this number is at least that of `put_count` at that time."""
-        return self._number("acknowledged", c_uint64)
-
-    @property
     def unsent(self) -> int:
         """Returns the number of bytes of this side's stream that the newest connection has not been given."""
         return self._number("unsent", c_size_t)
-
-    @property
-    def received(self) -> int:
-        """Returns the number of bytes of the other side's stream that have come."""
-        return self._number("received", c_uint64)

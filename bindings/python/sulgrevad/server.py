@@ -7,7 +7,7 @@ from typing import Any, Deque, Iterable, NamedTuple, Optional, Tuple
 
 from sulgrevad._library import CEffect, Handle, Text, bytes_of
 from sulgrevad.carrier import MOST_NOTE, MOST_PIECE, Bytes, Mover, id_of
-from sulgrevad.sides import MOST_IN_NAME, NONE, OK, Held, Texts, least
+from sulgrevad.sides import MOST_IN_NAME, NONE, OK, Counts, Held, Texts, least
 from sulgrevad.status import error_of
 
 
@@ -30,7 +30,7 @@ class Effect(NamedTuple):
     len: int
 
 
-class DurableServer(Texts, Mover):
+class DurableServer(Counts, Texts, Mover):
     """A host with its end of a link, which outlives a crash. It makes a record of each thing that it takes, and nothing that a record
     decides goes out before that record is durable. So the terminal never learns of anything that a crash undoes.
 
@@ -175,6 +175,19 @@ class DurableServer(Texts, Mover):
         refusal: Missing if `next_effect` returns None."""
         self._call("effect_done", ending)
 
+    # ---- A takeover
+
+    def heir(self, id: Bytes) -> "DurableServer":
+        """Returns a server of another session, which begins with the texts of this one, for a terminal that takes them over. All files but
+        the command file join it with their names and texts, in the order of their tags: from tag 1 on, with no gap. Its records begin a
+        journal of its own: once that has the name of the old one, the texts are taken over. This server stays as it was. Marks of dirty
+        files, what was written last and selections stay behind: call `mark_dirty` once the terminal has a file's name. Raises, in this
+        order: ValueError for an id of another length; Waiting, for `go_on`; ServerFault (SERVER_EFFECT_WAITS) before an effect is done;
+        NoMemory."""
+        heir = _unmade()
+        self._call("heir", id_of(id), byref(heir._handle))
+        return heir
+
     # ---- Readers of its host
 
     @property
@@ -217,6 +230,27 @@ class DurableServer(Texts, Mover):
         Raises Missing if the tag has no file, or if the file was never written."""
         return self._long_text("saved", place, runes, tag)
 
+    def is_open(self, tag: int) -> bool:
+        """Returns whether the terminal has opened the file. Raises Missing if the tag has no file."""
+        return self._truth("is_open", tag)
+
+    @property
+    def snarf_len(self) -> int:
+        """Returns the length of the snarf buffer in runes."""
+        return self._number("snarf_len", c_uint32)
+
+    def snarf(self, place: int = 0, runes: Optional[int] = None) -> str:
+        """Returns the text of the snarf buffer from the place `place` on: at most `runes` runes, or all."""
+        return self._long_text("snarf", place, runes)
+
+
+def _unmade() -> DurableServer:
+    """Returns a server that a call of the library is still to make."""
+    server = DurableServer.__new__(DurableServer)
+    server._prepare()
+    server._handle = Handle()
+    return server
+
 
 class Recovery(Held):
     """A durable server that is made again of its records, one by one; `recover` does it at once."""
@@ -239,9 +273,7 @@ class Recovery(Held):
         """Returns the server that goes on behind all these records. Its connection is over, and its records count as durable, so have the
         journal synced before: an effect that waits is to be done now. Any later call of this object but `free` raises HandleFault. Raises
         NoMemory, and nothing has changed."""
-        server = DurableServer.__new__(DurableServer)
-        server._prepare()
-        server._handle = Handle()
+        server = _unmade()
         self._call("finish", byref(server._handle))
         return server
 

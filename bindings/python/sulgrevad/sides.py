@@ -157,6 +157,31 @@ class Stopping(Held):
         return self._number_if_any("fault_place", c_uint64)
 
 
+class Counts(Held):
+    """The counts of one end of a link: of a link and of a durable server."""
+
+    @property
+    def attempt(self) -> int:
+        """Returns the number of the newest connection, or 0 before the first."""
+        return self._number("attempt", c_uint64)
+
+    @property
+    def put_count(self) -> int:
+        """Returns the number of bytes of this side's stream, heads of packets included."""
+        return self._number("put_count", c_uint64)
+
+    @property
+    def acknowledged(self) -> int:
+        """Returns the number of bytes of this side's stream that the other side has acknowledged. All bytes that were put by some time have
+        come once this number is at least that of `put_count` at that time."""
+        return self._number("acknowledged", c_uint64)
+
+    @property
+    def received(self) -> int:
+        """Returns the number of bytes of the other side's stream that have come."""
+        return self._number("received", c_uint64)
+
+
 class Streams(Stopping, Texts):
     """The pending bytes of host, terminal and overlay."""
 

@@ -85,6 +85,7 @@ class Status(enum.IntEnum):
     SERVER_COUNT_FULL = 289
     SERVER_NO_RECORD = 290
     SERVER_NOT_TAKEN = 291
+    SERVER_EFFECT_WAITS = 292
 
 
 class Kind(enum.IntEnum):
@@ -261,8 +262,8 @@ class NoteFault(SamError, ValueError):
 
 
 class ServerFault(SamError, ValueError):
-    """A record is not taken again (SAM_SERVER_NO_RECORD, SAM_SERVER_NOT_TAKEN), or a durable server has stopped because a count is full
-    (SAM_SERVER_COUNT_FULL)."""
+    """A record is not taken again (SAM_SERVER_NO_RECORD, SAM_SERVER_NOT_TAKEN), a durable server has stopped because a count is full
+    (SAM_SERVER_COUNT_FULL), or it hands no texts on before its effect is done (SAM_SERVER_EFFECT_WAITS)."""
 
 
 class ScriptFault(SamError, ValueError):

@@ -15,12 +15,14 @@ A host serves texts to it, and is told what to write:
 
     await serve({"notes": "tea\\n"}, "notes.socket", lambda name, text: Path(name).write_text(text))
 
-Edits show at once with or without a connection. If the connection breaks the session makes another: `sulgrevad.Line` says when. Each byte
-comes once and in order, and every await goes on to wait. It ends by an answer, or by SessionOver or SessionLost if no answer can come.
-Put `asyncio.wait_for` round an await that shall not wait so long: to cancel it takes nothing back that was asked for.
+No edit waits: it is shown before `insert` returns, also while the text is written, and with or without a connection. If the connection
+breaks the session makes another: a `sulgrevad.Client` says when, and what was done comes to the host once and in order. Every await goes on
+to wait. It ends by an answer, or by SessionOver or SessionLost if no answer can come. Put `asyncio.wait_for` round an await that shall not
+wait so long: to cancel it takes nothing back that was asked for.
 
 Both ends speak the messages of docs/reference/SESSION.md, so a `Session` also works over samhost, and opens files by their paths there.
-Use all of it in the thread of the event loop. If memory is out, everything is kept, and tried again after a tenth of a second.
+Use all of it in the thread of the event loop. If memory is out an edit raises NoMemory, and the text is as it was: make the call again.
+Everything else is kept, and tried again after a tenth of a second.
 """
 from sulgrevad.aio.document import Document
 from sulgrevad.aio.ends import RequestRefused, SessionLost, SessionOver

@@ -1,20 +1,14 @@
-"""What both ends of a session share: bytes and notes that move between a side, its end of the link, and the newest connection."""
+"""What both ends of a session share: exceptions, the clock, callbacks, and bytes that move to and from the newest connection."""
 import asyncio
 import time
-from collections import deque
-from typing import Any, Awaitable, Callable, Deque, Optional, Tuple, TypeVar, Union
+from typing import Any, Awaitable, Callable, Optional, TypeVar
 
-from sulgrevad.carrier import Carrier
-from sulgrevad.host import Host
-from sulgrevad.note import Note, read_note, write_note
-from sulgrevad.status import LinkFault, NoteFault, SamError, Status
-from sulgrevad.terminal import Terminal
+from sulgrevad.note import Note
+from sulgrevad.status import LinkFault, SamError
 
 MILLISECONDS = 1000  # in a second
 MOST_PIECE = 65_536  # bytes that are read together
 SHORT = 0.1  # seconds after which a call is made again for which memory was out
-MESSAGES_VERSION = 1  # of the messages of a session
-MOST_WORDS = 900  # characters of words for people in one message
 
 
 class SessionOver(Exception):
@@ -70,13 +64,9 @@ def told_of(callback: Callable[..., object], *arguments: Any) -> None:
 
 
 class End:
-    """One end. What a side or the link couldn't take, because memory was out, is kept, and brought again."""
+    """One end. What can't be done because memory is out is tried again later, and nothing is lost."""
 
-    def __init__(self, side: Union[Host, Terminal], carrier: Carrier) -> None:
-        self._side, self._carrier = side, carrier
-        self._came = b""  # bytes that the side has not taken
-        self._heard: Optional[bytes] = None  # a note that is not done yet
-        self._outgoing: Deque[Tuple[Callable[[bytes], None], bytes]] = deque()  # what the link has not taken, and by which call it does
+    def __init__(self) -> None:
         self._writer: Optional[asyncio.StreamWriter] = None  # of the newest connection
         self._attempt = 0
         self._is_over = self._is_going = self._is_asked = False
@@ -84,22 +74,10 @@ class End:
 
     # ---- What each end does in its own way
 
-    def _make_steps(self) -> None:
+    def _advance(self) -> None:
         raise NotImplementedError
 
-    def _hear(self, note: Note) -> None:
-        raise NotImplementedError
-
-    def _act(self) -> None:
-        raise NotImplementedError
-
-    def _put(self, data: bytes) -> None:
-        raise NotImplementedError
-
-    def _put_note(self, data: bytes) -> None:
-        raise NotImplementedError
-
-    def _ask(self) -> None:
+    def _take_out(self, attempt: int) -> bytes:
         raise NotImplementedError
 
     def _receive(self, attempt: int, data: bytes) -> None:
@@ -120,8 +98,7 @@ class End:
         try:
             while self._is_asked and not self._is_over:
                 self._is_asked = False
-                self._take_in()
-                self._act()
+                self._advance()
                 self._send()
         except MemoryError:
             if self._retry:
@@ -132,53 +109,9 @@ class End:
         finally:
             self._is_going = False
 
-    def _take_in(self) -> None:
-        self._make_steps()
-        while True:
-            if self._heard is None:
-                self._came = self._came or self._carrier.take_in()
-            if self._came:
-                self._side.bring(self._came)
-                self._came = b""
-                self._make_steps()
-            elif not self._take_note():
-                return
-
-    def _take_note(self) -> bool:
-        """Takes the note that is next. Returns whether there was one."""
-        if self._heard is None:
-            self._heard = self._carrier.next_note()
-        if self._heard is None:
-            return False
-        try:
-            note = read_note(self._heard)
-        except NoteFault as fault:
-            if fault.code != Status.NOTE_BAD_KIND:  # else it comes from a later version
-                raise
-        else:
-            self._hear(note)
-        self._heard = None
-        return True
-
-    def _take_out(self) -> None:
-        """Moves what the side has for the other one behind what goes out already."""
-        if data := self._side.take_out():
-            self._outgoing.append((self._put, data))
-
-    def _queue_note(self, note: Note) -> None:
-        """Moves a note behind what goes out already."""
-        note = note._replace(text=note.text[:MOST_WORDS])
-        self._outgoing.append((self._put_note, write_note(note)))
-
     def _send(self) -> None:
-        self._take_out()
-        while self._outgoing:
-            put, data = self._outgoing[0]
-            put(data)
-            self._outgoing.popleft()
-        self._ask()
         try:
-            while self._writer and (data := self._carrier.take_out(self._attempt)):
+            while self._writer and (data := self._take_out(self._attempt)):
                 self._writer.write(data)
         except LinkFault:
             self._drop(self._attempt)  # it is over

@@ -4,15 +4,18 @@ import contextlib
 import errno
 import os
 import socket
-from typing import Callable, Dict, List, Mapping, Optional, Sequence, Set, Tuple, Union
+from collections import deque
+from typing import Callable, Deque, Dict, List, Mapping, Optional, Sequence, Set, Tuple, Union
 
-from sulgrevad.aio.ends import MESSAGES_VERSION, End, within
+from sulgrevad.aio.ends import End, within
 from sulgrevad.carrier import ID_BYTES
 from sulgrevad.host import Host
 from sulgrevad.link import HELLO_BYTES, Hello, Link, What, read_hello, write_refusal
-from sulgrevad.note import Note, NoteCode, NoteKind
-from sulgrevad.status import LinkFault, MarkRefused, Missing, Status, Step
+from sulgrevad.note import Note, NoteCode, NoteKind, read_note, write_note
+from sulgrevad.status import LinkFault, MarkRefused, Missing, NoteFault, Status, Step
 
+MESSAGES_VERSION = 1  # of the messages of a session
+MOST_WORDS = 900  # characters of words for people in one message
 GREETING = 30.0  # seconds that a hello may take
 LINGER = 30.0  # seconds for which an ended session waits for its terminal to hear of that
 CLOSING = 1.0  # seconds that connections may take to close
@@ -27,15 +30,17 @@ Address = Union[str, "os.PathLike[str]", Tuple[str, int], Tuple[asyncio.StreamRe
 
 
 class _Served(End):
-    """The host's end of one terminal's session."""
+    """The host's end of one terminal's session. What host or link couldn't take, because memory was out, is kept, and brought again."""
 
     def __init__(self, server: "Server", id: bytes) -> None:
-        self.id, self.host, self.link = id, Host(), Link(Link.HOST, id)
-        super().__init__(self.host, self.link)
-        self.server = server
+        super().__init__()
+        self.id, self.host, self.link, self.server = id, Host(), Link(Link.HOST, id), server
         self.tags: Dict[int, str] = {}
         self.requests: Dict[int, int] = {}  # of the next write of each file
         self.to_mark: Set[int] = set()  # files that are dirty, and not marked yet
+        self._came = b""  # bytes that the host has not taken
+        self._heard: Optional[bytes] = None  # a note that is not done yet
+        self._outgoing: Deque[Tuple[Callable[[bytes], None], bytes]] = deque()  # what the link has not taken, and by which call it does
         self._queue_note(Note(NoteKind.SESSION, number=MESSAGES_VERSION, path=id.hex().encode(), text=socket.gethostname()))
 
     def add(self, name: str, text: str) -> int:
@@ -72,13 +77,78 @@ class _Served(End):
         if self._writer:
             self._writer.close()  # once it has sent the rest
 
+    # ---- What moves
+
+    def _advance(self) -> None:
+        self._take_in()
+        self._mark()
+        self._put_out()
+
+    def _take_in(self) -> None:
+        self._make_steps()
+        while True:
+            if self._heard is None:
+                self._came = self._came or self.link.take_in()
+            if self._came:
+                self.host.bring(self._came)
+                self._came = b""
+                self._make_steps()
+            elif not self._take_note():
+                return
+
+    def _take_note(self) -> bool:
+        """Takes the note that is next. Returns whether there was one."""
+        if self._heard is None:
+            self._heard = self.link.next_note()
+        if self._heard is None:
+            return False
+        try:
+            note = read_note(self._heard)
+        except NoteFault as fault:
+            if fault.code != Status.NOTE_BAD_KIND:  # else it comes from a later version
+                raise
+        else:
+            self._hear(note)
+        self._heard = None
+        return True
+
+    def _queue(self) -> None:
+        """Moves what the host has for the terminal behind what goes out already."""
+        if data := self.host.take_out():
+            self._outgoing.append((self.link.put, data))
+
+    def _queue_note(self, note: Note) -> None:
+        """Moves a note behind what goes out already."""
+        self._outgoing.append((self.link.put_note, write_note(note._replace(text=note.text[:MOST_WORDS]))))
+
+    def _put_out(self) -> None:
+        self._queue()
+        while self._outgoing:
+            put, data = self._outgoing[0]
+            put(data)
+            self._outgoing.popleft()
+        if self.host.is_done:
+            if not self.has_heard:
+                self.link.ask()
+            self.server._end_soon(self.has_heard)
+
+    def _take_out(self, attempt: int) -> bytes:
+        return self.link.take_out(attempt)
+
+    def _receive(self, attempt: int, data: bytes) -> None:
+        self.link.feed(attempt, data)
+
+    def _end(self, why: Exception) -> None:
+        self.stop()
+        self.server._end(why)
+
     def _make_steps(self) -> None:
         while True:
             did = self.host.step()
             for tag in self.host.written():
                 self._write(tag)
             self._mark()
-            self._take_out()
+            self._queue()
             if did.step == Step.IDLE:
                 return
 
@@ -118,28 +188,6 @@ class _Served(End):
             self._queue_note(Note(NoteKind.REFUSED, note.request, code=NoteCode.NOT_FOUND, text=f"there is no {name}"))
         else:
             self._queue_note(Note(NoteKind.OPENED, note.request, tag))
-
-    def _act(self) -> None:
-        self._mark()
-
-    def _put(self, data: bytes) -> None:
-        self.link.put(data)
-
-    def _put_note(self, data: bytes) -> None:
-        self.link.put_note(data)
-
-    def _ask(self) -> None:
-        if self.host.is_done:
-            if not self.has_heard:
-                self.link.ask()
-            self.server._end_soon(self.has_heard)
-
-    def _receive(self, attempt: int, data: bytes) -> None:
-        self.link.feed(attempt, data)
-
-    def _end(self, why: Exception) -> None:
-        self.stop()
-        self.server._end(why)
 
 
 class Server:

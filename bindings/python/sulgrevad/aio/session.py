@@ -2,39 +2,28 @@
 import asyncio
 import contextlib
 import os
+from collections import deque
 from functools import partial
 from types import TracebackType
-from typing import Any, Awaitable, Callable, Dict, List, Optional, Set, Tuple, Type
+from typing import Any, Awaitable, Callable, Deque, Dict, List, Optional, Set, Tuple, Type
 
-from sulgrevad.aio.document import COMMAND_FILE, Document, EditTurn, Turn
+from sulgrevad.aio.document import Document
 from sulgrevad.aio.ends import End, RequestRefused, SessionLost, SessionOver, now, seconds, told_of, within
+from sulgrevad.aio.requests import COMMAND_FILE, MOST_REQUESTS, MOST_RUNES, Request, Requests, Run, fail, succeed
 from sulgrevad.carrier import ID_BYTES
-from sulgrevad.line import Line, LineDetails, Tick
-from sulgrevad.note import Note, NoteKind
-from sulgrevad.results import Change
-from sulgrevad.status import SamError, Status, Step, Unfinished, error_of
-from sulgrevad.terminal import Terminal
+from sulgrevad.client import Client, ClientEvent, ClientEventKind
+from sulgrevad.line import LineDetails, Tick
+from sulgrevad.note import Note, NoteCode, NoteKind, read_note, write_note
+from sulgrevad.overlay import EventKind, Splice, SpliceKind
+from sulgrevad.results import TerminalDid
+from sulgrevad.status import NoteFault, SamError, Status, Step, TooMany
 
 VERSION = 2  # of the protocol
-MOST_RUNES = 1_000_000  # of a text
-MOST_TYPED = 511  # runes of a line that are typed together, behind a newline
 OPENING = 30.0  # seconds that a connection may take
+NOT_LOADED = "\ufffd"  # stands for a rune that is not loaded
 
 Opener = Callable[[], Awaitable[Tuple[asyncio.StreamReader, asyncio.StreamWriter]]]
-
-
-class _Wait:
-    """Somebody who waits until something holds."""
-
-    def __init__(self, holds: Callable[[], bool], future: "asyncio.Future[Any]", result: Any) -> None:
-        self.holds, self.future, self.result = holds, future, result
-
-
-class _Made:
-    """An event that was made: whose future fails if the terminal refuses it, and perhaps has this result once it has acted."""
-
-    def __init__(self, future: "asyncio.Future[Any]", has_result: bool, result: Any) -> None:
-        self.future, self.has_result, self.result = future, has_result, result
+_Wait = Tuple[Callable[[], bool], Callable[[], None]]  # what is done once something holds
 
 
 class Session(End):
@@ -50,23 +39,24 @@ class Session(End):
     """
 
     def __init__(self, opener: Opener, take_over: bool = False, on_line: Optional[Callable[[], object]] = None) -> None:
+        super().__init__()
         self._id = os.urandom(ID_BYTES)
-        self._terminal, self._line = Terminal(), Line(self._id, take_over, now())
-        super().__init__(self._terminal, self._line)
+        self._client = Client(self._id, take_over, now())
         self._opener, self._on_line = opener, on_line
         self._documents: Dict[int, Document] = {}
-        self._turns: List[Turn] = []
+        self._requests = Requests(self._client)
+        self._notes: List[bytes] = []  # for the host, which the client hasn't got
+        self._opens: "Dict[int, asyncio.Future[Note]]" = {}  # who waits for which answer
+        self._writes: "Dict[int, Deque[List[asyncio.Future[Note]]]]" = {}  # who waits for the writes of a file, one after another
+        self._runs = 0  # command lines that are under way
         self._waits: List[_Wait] = []
-        self._made: Dict[int, _Made] = {}  # by the number of the event
-        self._answers: Dict[int, "asyncio.Future[Note]"] = {}  # by the number of the request
-        self._requests = 0
-        self._is_line_begun = False  # the last line of the command file has no newline
+        self._futures: "Set[asyncio.Future[Any]]" = set()  # of all that wait
+        self._changes: Deque[Callable[[], object]] = deque()  # that the program was not told of
+        self._opened, self._state = 0, Client.DOWN
         self._is_closing = False
         self._why: Optional[BaseException] = None  # the session is over
-        self._state = Line.DOWN
         self._woken = asyncio.Event()
-        self._terminal.offer_version(VERSION)
-        self._terminal.open_cmd()
+        self._requests.add(Request(EventKind.OFFER_VERSION, version=VERSION), Request(EventKind.OPEN_CMD))
         self._keeper = asyncio.get_running_loop().create_task(self._keep())
         self._carrying: Optional["asyncio.Task[None]"] = None
 
@@ -74,21 +64,20 @@ class Session(End):
 
     async def open(self, name: str) -> Document:
         """Opens a text by its name, at samhost by its path, and returns it once all of it has come; a second time the same document. Raises
-        RequestRefused if the host has no such text, and NoteFault for a name that no message can have; SessionOver and SessionLost, too."""
+        RequestRefused if the host has no such text, and NoteFault for a name that no message can have; TooMany if 1,000 requests wait;
+        SessionOver and SessionLost, too."""
         self._check()
-        answer: "asyncio.Future[Note]" = self._future()
-        self._ask_for(NoteKind.OPEN, answer, path=name.encode("utf-8", "surrogateescape"))
+        number = self._opened = self._opened + 1
+        note = write_note(Note(NoteKind.OPEN, number, path=name.encode("utf-8", "surrogateescape")))
+        answer = self._opens[number] = self._future()
+        self._notes.append(note)
         self._go_on()
-        note = await answer
-        document = self._documents.get(note.tag)
-        if document is None:
-            document = self._documents[note.tag] = Document(self, note.tag, name)
-            self._begin_open(document)
-        opened = document
-        await self._until(lambda: opened._is_ready or opened._opened.done())
-        if opened._opened.done():
-            opened._opened.result()
-        return opened
+        tag = (await answer).tag
+        document = self._documents.get(tag) or self._begin_open(tag, name)
+        await self._until(lambda: document._is_ready or document._refusal is not None)
+        if document._refusal:
+            raise document._refusal
+        return document
 
     @property
     def documents(self) -> List[Document]:
@@ -104,13 +93,12 @@ class Session(End):
     def line(self) -> LineDetails:
         """Returns the state of the line, for a status line: `state` is Line.OPEN while the host answers, `silence` the time for which it
         should have, and didn't."""
-        return self._line.describe(now())
+        return self._client.describe(now())
 
     @property
     def has_all(self) -> bool:
         """Returns whether the host has all that was done here, and nothing waits."""
-        is_sent = not self._turns and not self._outgoing and self._terminal.pending == 0 and self._terminal.unsent == 0
-        return is_sent and self._terminal.held == 0 and self.line.has_all
+        return len(self._requests) == 0 and not self._notes and self._client.has_all
 
     async def wait(self) -> None:
         """Waits until the session is over: closed here, or ended by its host. Raises SessionLost if it is lost, and SessionOver if the
@@ -128,12 +116,13 @@ class Session(End):
         try:
             if self._is_over:
                 return
-            await self._until(lambda: not self._turns)
+            await self._until(lambda: len(self._requests) < MOST_REQUESTS)
             self._is_closing = True
-            self._take_turns(Turn((), lambda: self._make(self._terminal.exit)))
-            await self._until(lambda: self._terminal.exited)
+            self._requests.add(Request(EventKind.EXIT))
+            self._go_on()
+            await self._until(lambda: self._client.state().exited)
             with contextlib.suppress(MemoryError, OSError):
-                self._line.acknowledge()
+                self._client.acknowledge()
                 self._go_on()
                 if self._writer:
                     await self._writer.drain()
@@ -173,214 +162,213 @@ class Session(End):
         return failure
 
     def _future(self) -> "asyncio.Future[Any]":
-        return asyncio.get_running_loop().create_future()
+        """Returns a future that fails if the session is over first."""
+        future: "asyncio.Future[Any]" = asyncio.get_running_loop().create_future()
+        self._futures.add(future)
+        future.add_done_callback(self._futures.discard)
+        return future
 
     async def _until(self, holds: Callable[[], bool]) -> None:
         """Waits until something holds. Raises SessionOver or SessionLost if the session is over first."""
         self._check()
         if not holds():
-            wait = _Wait(holds, self._future(), None)
-            self._waits.append(wait)
+            future = self._future()
+            self._waits.append((lambda: future.done() or holds(), lambda: succeed(future, None)))
             self._expect()
-            await wait.future
+            await future
 
-    def _take_turns(self, *turns: Turn) -> None:
-        self._turns.extend(turns)
+    def _ask(self, future: "asyncio.Future[Any]", *requests: Request) -> None:
+        """Asks for something of which somebody waits for the outcome. Raises TooMany."""
+        try:
+            self._requests.add(*requests)
+        except TooMany:
+            future.cancel()
+            raise
+
+    def _replace(self, document: Document, start: int, end: int, text: bytes) -> None:
+        self._requests.put()  # what was asked for before doesn't find this edit
+        self._client.replace(document.tag, start, end, text)
+        self._note_change(document.on_change, start, end - start, text.decode())
+        self._tell_changes()
         self._go_on()
 
-    def _waits_at(self, tag: int) -> bool:
-        return any(isinstance(turn, EditTurn) and tag in turn.tags for turn in self._turns)
-
-    def _edit(self, turn: EditTurn) -> None:
-        """Makes an edit, which acts at once."""
-        tag = turn.tags[0]
-        self._make(lambda: self._terminal.edit(tag, turn.start, turn.end, turn.text), turn.future, True, turn.start)
-        others = [other for other in self._turns if other is not turn]  # without those that a callback now makes
-        change = self._tell_change(tag)
-        for other in others:
-            other.move(tag, change)
-
     def _write(self, tag: int) -> "asyncio.Future[Note]":
-        answer: "asyncio.Future[Note]" = self._future()
+        answer = self._future()
 
-        def ask() -> None:
-            self._take_out()  # what goes before it
-            self._ask_for(NoteKind.WRITE, answer, tag=tag)
+        def taken(is_shared: bool) -> None:
+            writes = self._writes.setdefault(tag, deque())
+            writes[-1].append(answer) if is_shared else writes.append([answer])
 
-        self._take_turns(
-            Turn((tag,), ask, answer),
-            Turn((tag,), lambda: self._make(lambda: self._terminal.write(tag), answer), answer),
-        )
+        def refused(why: Exception) -> None:
+            for future in self._writes[tag].popleft():
+                fail(future, why)
+
+        self._ask(answer, Request(EventKind.WRITE, tag, taken=taken, refused=refused))
+        self._go_on()
         return answer
 
     def _run(self, tag: int, line: str) -> "asyncio.Future[str]":
-        line += "\n"
-        printed: "asyncio.Future[str]" = self._future()
-        begin = 0  # where in the command file the printed text begins
+        run = Run(self._client, self._future())
 
-        def type_piece(piece: str, place: int) -> None:
-            nonlocal begin
-            front = "\n" if place == 0 and self._is_line_begun else ""
-            begin = self._terminal.len(COMMAND_FILE) + len(front) + len(piece)
-            self._make(lambda: self._terminal.type(COMMAND_FILE, front + piece), printed)
+        def finish() -> None:
+            self._runs -= 1
+            run.finish()
 
-        def load() -> None:
-            if length := self._terminal.len(COMMAND_FILE) - begin:
-                self._make(lambda: self._terminal.load(COMMAND_FILE, begin, length), printed)
+        self._ask(run.printed, *run.requests(tag, line, self._runs == 0))
+        self._runs += 1
+        self._waits.append((lambda: run.is_loaded and all(self._client.first_gap(tag) is None for tag in self._documents), finish))
+        self._go_on()
+        return run.printed
 
-        def read() -> None:
-            text = self._terminal.text(COMMAND_FILE, begin)
-            self._is_line_begun = bool(text) and not text.endswith("\n")
-            if not printed.done():
-                printed.set_result(text)
+    def _begin_open(self, tag: int, name: str) -> Document:
+        """Asks for the names of files if this one is new, and for all of its text."""
 
-        pieces = [partial(type_piece, line[place : place + MOST_TYPED], place) for place in range(0, len(line), MOST_TYPED)]
-        work = partial(self._make, lambda: self._terminal.work(tag), printed)
-        acts: List[Callable[[], None]] = [work, *pieces, load]
-        others = [other for other in self._documents if other != tag]
-        turns = [Turn((tag, COMMAND_FILE), act, printed) for act in acts]
-        self._take_turns(*turns, Turn((tag, COMMAND_FILE, *others), read, printed))
-        return printed
+        def refuse(why: Exception) -> None:
+            document._refusal = why
+            self._documents.pop(tag, None)
 
-    async def _close_document(self, tag: int) -> None:
+        document = Document(self, tag, name)
+        names = [] if self._client.file(tag).is_known else [Request(EventKind.OFFER_VERSION, version=VERSION)]
+        self._requests.add(*names, Request(EventKind.OPEN, tag, refused=refuse), *self._loads(document))
+        self._documents[tag] = document
+        self._go_on()
+        return document
+
+    async def _close_document(self, document: Document) -> None:
         self._check()
-        if self._terminal.is_open(tag):
-            self._take_turns(Turn((tag,), lambda: self._make(lambda: self._terminal.close(tag))))
-            await self._until(lambda: not self._terminal.is_open(tag))
-        self._documents.pop(tag, None)
+        if document.is_open:
+            self._requests.add(Request(EventKind.CLOSE, document.tag))
+            document._is_closing = True
+            self._go_on()
+        await self._until(lambda: not self._client.file(document.tag).is_open)
+        self._documents.pop(document.tag, None)
 
-    # ---- Events and answers
+    # ---- What comes
 
-    def _make(
-        self, event: Callable[[], None], future: "Optional[asyncio.Future[Any]]" = None, has_result: bool = False, result: Any = None
-    ) -> None:
-        """Makes an event. Its future fails if the event is refused, and may have a result once it has acted."""
-        before = self._terminal.events
+    def _advance(self) -> None:
+        """Goes on until nothing moves."""
         try:
-            event()
+            self._put()
+            while (told := self._client.next_event(now())).kind != ClientEventKind.IDLE or self._take_back() or self._load_gaps():
+                self._take(told)
+                self._put()
+            if self._client.state().exited and not self._is_closing:
+                self._client.acknowledge()
+                self._send()
+                raise SessionOver("a command line has ended the session")
         finally:
-            if future and self._terminal.events > before:  # also if it is unfinished
-                self._made[self._terminal.events] = _Made(future, has_result, result)
+            self._expect()
 
-    def _ask_for(self, kind: NoteKind, answer: "asyncio.Future[Note]", tag: int = 0, path: bytes = b"") -> None:
-        """Asks the host for something by a note."""
-        self._queue_note(Note(kind, self._requests + 1, tag, path=path))
-        self._requests += 1
-        self._answers[self._requests] = answer
+    def _put(self) -> None:
+        """Gives the client what it hasn't got, because memory was out."""
+        self._requests.put()
+        while self._notes:
+            self._client.put_note(self._notes[0], now())
+            del self._notes[0]
 
-    def _begin_open(self, document: Document) -> None:
-        """Asks for the names of files, since this one may be new, and for all of its text."""
-        tag, opened = document.tag, document._opened
-        opened.add_done_callback(lambda _: self._documents.pop(tag, None) if opened.exception() else None)
-        events = (
-            lambda: self._terminal.offer_version(VERSION),
-            lambda: self._terminal.open(tag),
-            lambda: self._terminal.load(tag, 0, MOST_RUNES),
-        )
-        self._take_turns(*(Turn((), partial(self._make, event, opened), opened) for event in events))
+    def _take(self, told: ClientEvent) -> None:
+        for splice in [*self._client.splices()]:
+            self._show(splice)
+        if told.did and told.did.why is not None:
+            self._requests.refused(told.did.why)
+        elif told.did and told.did.step == Step.ACTED and not is_edit(told.did):
+            self._requests.acted()
+        elif told.kind == ClientEventKind.NOTE:
+            self._hear(self._client.note)
+        for wait in [*self._waits]:
+            holds, act = wait
+            if holds():
+                self._waits.remove(wait)
+                act()
+        self._tell_changes()
 
-    def _hear(self, note: Note) -> None:
+    def _hear(self, data: bytes) -> None:
+        try:
+            note = read_note(data)
+        except NoteFault as fault:
+            if fault.code != Status.NOTE_BAD_KIND:  # else it comes from a later version
+                raise
+            return
         if note.kind == NoteKind.ENDED:
             raise SessionOver("its host has ended the session")
         if note.kind == NoteKind.TAKEN_OVER:
             raise SessionLost(Status.LINK_OTHER_SESSION)
-        answer = self._answers.pop(note.request, None)
-        if answer is None:
-            return
-        self._waits.append(_Wait(lambda: self._is_done(note), answer, note))
+        is_of_write = note.kind in (NoteKind.SAVED, NoteKind.NOT_SAVED) and note.code != NoteCode.TAKEN_UNSAVED
+        if note.kind in (NoteKind.OPENED, NoteKind.REFUSED) and note.request in self._opens:
+            answer([self._opens.pop(note.request)], note)
+        elif is_of_write and self._writes.get(note.tag):
+            self._waits.append((self._write_ends(note), partial(answer, self._writes[note.tag].popleft(), note)))
 
-    def _is_done(self, note: Note) -> bool:
-        """Whether all has come of which a note is the answer: behind that of a write stands whether the file is dirty."""
-        if note.kind not in (NoteKind.SAVED, NoteKind.NOT_SAVED) or not self._terminal.is_open(note.tag):
-            return True
-        return not self._terminal.locked(note.tag) and (note.kind == NoteKind.SAVED or self._terminal.is_changed(note.tag))
+    def _write_ends(self, note: Note) -> Callable[[], bool]:
+        """Returns what holds once all has come of a write: behind the host's message stands whether the file is dirty."""
+        was_free = False
 
-    def _settle(self) -> None:
-        """Answers those who wait."""
-        for refusal in self._terminal.refusals():
-            refused = self._made.pop(refusal.event, None)
-            if refused and not refused.future.done():
-                refused.future.set_exception(error_of(refusal.why))
-        decided = self._terminal.decided
-        for number in [number for number in self._made if number <= decided]:
-            made = self._made.pop(number)
-            if made.has_result and not made.future.done():
-                made.future.set_result(made.result)
-        for wait in [*self._waits]:
-            if wait.future.done() or wait.holds():
-                self._waits.remove(wait)
-                if not wait.future.done():
-                    self._answer(wait.future, wait.result)
-        if self._terminal.exited and not self._is_closing:
-            self._line.acknowledge()
-            self._send()
-            raise SessionOver("a command line has ended the session")
+        def holds() -> bool:
+            nonlocal was_free
+            file = self._client.file(note.tag)
+            was_free = was_free or not file.is_locked
+            return not file.is_open or (was_free and (note.kind == NoteKind.SAVED or self._client.is_unsaved(note.tag)))
 
-    def _answer(self, future: "asyncio.Future[Any]", result: Any) -> None:
-        if isinstance(result, Note) and result.kind in (NoteKind.REFUSED, NoteKind.NOT_SAVED):
-            future.set_exception(RequestRefused(result))
-        else:
-            future.set_result(result)
+        return holds
 
     # ---- Texts
 
-    def _make_steps(self) -> None:
-        while (did := self._terminal.step()).step not in (Step.IDLE, Step.LOCKED):
-            if did.change.gone or did.change.came:
-                if not did.loads:
-                    for turn in self._turns:
-                        turn.move(did.tag, did.change)
-                self._tell_change(did.tag)
+    def _text(self, tag: int, place: int, length: int) -> str:
+        text = self._client.text(tag, place, length)
+        if len(text) == length:
+            return text
+        rest = self._client.read(tag, place + len(text), length - len(text))
+        return text + "".join(NOT_LOADED if rune is None else rune for rune in rest)
 
-    def _tell_change(self, tag: int) -> Change:
-        """Tells of what has changed in a document since, once all of it is loaded. Returns it."""
-        document = self._documents.get(tag)
-        if document is None or not document._is_ready or not document.is_open or self._terminal.first_gap(tag) is not None:
-            return Change(0, 0, 0)
-        change = self._terminal.changed(tag)
-        if document.on_change and (change.gone or change.came):
-            told_of(document.on_change, change.start, change.gone, self._terminal.text(tag, change.start, change.came))
-        return change
+    def _show(self, splice: Splice) -> None:
+        """Notes a change of a document that the program is to be told."""
+        document = self._documents.get(splice.tag)
+        if document is None or not document._is_ready or splice.kind == SpliceKind.EMPTIED:
+            return
+        came = 0 if splice.kind == SpliceKind.WENT else splice.length
+        gone = 0 if splice.kind == SpliceKind.CAME else splice.length
+        self._note_change(document.on_change, splice.place, gone, self._text(splice.tag, splice.place, came))
 
-    def _load_gaps(self) -> None:
-        """Loads what is not loaded of a document, by one round trip."""
-        for document in [*self._documents.values()]:
-            file = self._terminal.file(document.tag)
-            has_gap = self._terminal.first_gap(document.tag) is not None
-            if file.is_open and has_gap and not document._is_loading:
-                self._make(lambda tag=document.tag: self._terminal.load(tag, 0, MOST_RUNES))  # type: ignore[misc]
-                document._is_loading = True
-            elif file.is_free and not has_gap and document._is_loading:
-                self._make(lambda tag=document.tag: self._terminal.view(tag, 0, 0))  # type: ignore[misc]
-                document._is_loading = False
-                if not document._is_ready:
-                    self._terminal.changed(document.tag)
-                    document._is_ready = True
+    def _note_change(self, callback: Optional[Callable[..., object]], *details: Any) -> None:
+        if callback:
+            self._changes.append(partial(callback, *details))
 
-    def _is_free(self, tag: int) -> bool:
-        document, file = self._documents.get(tag), self._terminal.file(tag)
-        return not (document is not None and document._is_loading) and (file.is_free or (tag != COMMAND_FILE and not file.is_open))
+    def _tell_changes(self) -> None:
+        """Tells the program of changes, one after another: what a callback changes is told behind what was changed before."""
+        while self._changes:
+            told_of(self._changes.popleft())
 
-    def _act(self) -> None:
-        self._settle()
-        self._load_gaps()
-        waiting: Set[int] = set()
-        for turn in [*self._turns]:
-            if turn.tags and not self._terminal.is_open(turn.tags[0]):
-                self._turns.remove(turn)
-                if turn.future and not turn.future.done():
-                    turn.future.set_exception(error_of(Status.NONE))
-            elif waiting.isdisjoint(turn.tags) and all(map(self._is_free, turn.tags)):
-                try:
-                    turn.act()
-                except Unfinished:
-                    self._turns.remove(turn)  # it was taken
-                    raise
-                self._turns.remove(turn)
-            else:
-                waiting.update(turn.tags)
-        self._settle()
-        self._tell_state()
+    def _take_back(self) -> bool:
+        """Takes back a text for which the host has left no room. Returns whether there was one."""
+        for tag, document in self._documents.items():
+            is_left = self._client.is_waiting(tag) and self._client.file(tag).is_free
+            if is_left and (dropped := self._client.drop_next(tag)):
+                self._note_change(document.on_change, dropped.place, dropped.length, "")
+                self._note_change(document.on_dropped or tell_dropped, dropped.text)
+                return True
+        return False
+
+    def _load_gaps(self) -> bool:
+        """Asks for what is not loaded of the documents, by one round trip. Returns whether there was something."""
+        for document in self._documents.values():
+            is_due = not document._is_loading and len(self._requests) + 2 <= MOST_REQUESTS
+            if is_due and self._client.first_gap(document.tag) is not None:
+                self._requests.add(*self._loads(document))
+                return True
+        return False
+
+    def _loads(self, document: Document) -> List[Request]:
+        """Returns the requests that load a text. An empty view behind them asks for nothing by itself."""
+
+        def loaded(_why: Optional[Exception] = None) -> None:
+            document._is_loading = False
+            document._is_ready = document._is_ready or self._client.first_gap(document.tag) is None
+
+        document._is_loading = True
+        load = Request(EventKind.LOAD, document.tag, number=MOST_RUNES)
+        return [load, Request(EventKind.VIEW, document.tag, acted=loaded, refused=loaded)]
+
+    # ---- The line
 
     def _tell_state(self) -> None:
         state = self.line.state
@@ -389,47 +377,46 @@ class Session(End):
             if self._on_line:
                 told_of(self._on_line)
 
-    # ---- The line
-
     async def _keep(self) -> None:
-        """Does what the line says."""
+        """Does what the client says."""
         try:
             while not self._is_over:
-                tick = self._line.tick(now())
+                tick = self._client.tick(now())
                 self._tell_state()
                 if tick == Tick.CONNECT:
                     await self._connect()
                 elif tick == Tick.DROP:
                     self._drop(self._attempt)
-                elif tick == Tick.NOTHING:
+                else:
                     self._go_on()  # which asks, too
-                    if (line := self.line).state == Line.LOST:
+                    if (line := self.line).state == Client.LOST:
                         raise SessionLost(line.why)
+                if tick == Tick.NOTHING:
                     await self._pause()
         except Exception as why:
             self._end(why)
 
     def _expect(self) -> None:
         """Tells the line whether an answer is waited for: it knows of acknowledgements alone, which may come before it dies."""
-        is_waiting = self._turns or self._waits or self._answers or self._made or any(each._is_loading for each in self._documents.values())
-        self._line.expect(bool(is_waiting), now())
+        is_loading = any(each._is_loading for each in self._documents.values())
+        self._client.expect(bool(self._futures) or is_loading or not self._client.has_all, now())
         self._woken.set()  # what it says next may be due sooner now
 
     async def _pause(self) -> None:
-        """Waits until the line has something to say."""
+        """Waits until the client has something to say."""
         self._woken.clear()  # a round before it has set it
         with contextlib.suppress(asyncio.TimeoutError):
-            await within(seconds(self._line.due_in(now())), self._woken.wait())
+            await within(seconds(self._client.due_in(now())), self._woken.wait())
 
     async def _connect(self) -> None:
         try:
             reader, writer = await within(OPENING, self._opener())
         except (OSError, EOFError, asyncio.TimeoutError):
-            self._line.not_connected(now())
+            self._client.not_connected(now())
             return
         if self._carrying:
             self._carrying.cancel()
-        self._attempt, self._writer = self._line.connected(now()), writer
+        self._attempt, self._writer = self._client.connected(now()), writer
         self._carrying = asyncio.get_running_loop().create_task(self._carry(reader, self._attempt))
 
     async def _carry(self, reader: asyncio.StreamReader, attempt: int) -> None:
@@ -437,37 +424,23 @@ class Session(End):
         try:
             await self._read(reader, attempt)
         finally:
-            self._line.broken(attempt, now())
+            self._client.broken(attempt, now())
             self._drop(attempt)
             self._woken.set()
 
-    def _put(self, data: bytes) -> None:
-        self._line.put(data, now())
-
-    def _put_note(self, data: bytes) -> None:
-        self._line.put_note(data, now())
-
-    def _ask(self) -> None:
-        self._expect()
-        self._line.ask(now())
+    def _take_out(self, attempt: int) -> bytes:
+        return self._client.take_out(attempt)
 
     def _receive(self, attempt: int, data: bytes) -> None:
-        self._line.receive(attempt, data, now())
-
-    def _take_out(self) -> None:
-        self._terminal.flush_now()
-        super()._take_out()
+        self._client.receive(attempt, data, now())
 
     def _end(self, why: BaseException) -> None:
         if self._is_over:
             return
         self._is_over, self._why = True, why
-        made, waits = [made.future for made in self._made.values()], [wait.future for wait in self._waits]
-        for future in (*made, *waits, *self._answers.values(), *(turn.future for turn in self._turns)):
-            if future and not future.done():
-                future.set_exception(self._failure())
-        for kept in (self._made, self._waits, self._answers, self._turns):
-            kept.clear()  # type: ignore[attr-defined]
+        for future in [*self._futures]:
+            fail(future, self._failure())
+        self._waits.clear()
         if self._writer:
             self._writer.close()  # once it has sent the rest
         current = asyncio.current_task()
@@ -476,3 +449,23 @@ class Session(End):
                 task.cancel()
         if self._on_line:
             told_of(self._on_line)
+
+
+def is_edit(did: TerminalDid) -> bool:
+    """Whether what acted is an edit. No request changes a text but that of the command file."""
+    return did.tag != COMMAND_FILE and (did.change.gone > 0 or did.change.came > 0)
+
+
+def answer(futures: "List[asyncio.Future[Note]]", note: Note) -> None:
+    """Answers those who wait for a message of the host."""
+    for future in futures:
+        if note.kind in (NoteKind.REFUSED, NoteKind.NOT_SAVED):
+            fail(future, RequestRefused(note))
+        else:
+            succeed(future, note)
+
+
+def tell_dropped(text: str) -> None:
+    """Tells the loop's handler of a text that was taken back."""
+    message = "the host has no room for a text that was put in, so it is taken out again"
+    asyncio.get_running_loop().call_exception_handler({"message": message, "text": text})
