@@ -83,6 +83,7 @@ pub const SAM_JOURNAL_TOO_LONG: sam_status = 263;
 pub const SAM_SERVER_COUNT_FULL: sam_status = 289;
 pub const SAM_SERVER_NO_RECORD: sam_status = 290;
 pub const SAM_SERVER_NOT_TAKEN: sam_status = 291;
+pub const SAM_SERVER_EFFECT_WAITS: sam_status = 292;
 
 /// The sides of a link, and the states of a connection.
 pub const SAM_LINK_TERMINAL: u32 = 0;
@@ -1293,11 +1294,13 @@ extern "C" {
     pub fn sam_client_replace(client: *mut sam_client, tag: u16, start: u32, end: u32, text: *const u8, len: usize) -> sam_status;
     /// Asks for what is no edit: an event of an overlay (enum sam_event_kind), with its text if it brings one. It stands in one order with
     /// the edits: it acts as the client goes on, once all edits before it are put, and finds the text that is shown now, with the host's
-    /// changes since. A place that it names is one of that text, and doesn't move with them. Requests act in the order in which they were
-    /// asked for; a write that would find the same text as one that waits is that one. Refused, in this order, and the client is then as it
-    /// was: SAM_NOT_TEXT if the text is not UTF-8; SAM_NO_MEMORY if there is no memory for its runes; SAM_NONE if no event has this kind;
-    /// SAM_WAITING while an edit was put that has not acted: go on first; SAM_TOO_MANY if 1,000 requests wait; SAM_COUNT_FULL if 2^32-1
-    /// were taken while edits or requests waited; SAM_NO_MEMORY.
+    /// changes since. A place that it names is one of that text, and moves with it as the host changes the text: what comes in at the place
+    /// itself stands behind it, and a range of which all goes is empty there. A place past the end of the text doesn't move: it is one of a
+    /// text to come, as of a file that is asked to be opened just before. Requests act in the order in which they were asked for; a write
+    /// that would find the same text as one that waits is that one. Refused, in this order, and the client is then as it was: SAM_NOT_TEXT
+    /// if the text is not UTF-8; SAM_NO_MEMORY if there is no memory for its runes; SAM_NONE if no event has this kind; SAM_WAITING while
+    /// an edit was put that has not acted: go on first; SAM_TOO_MANY if 1,000 requests wait; SAM_COUNT_FULL if 2^32-1 were taken while
+    /// edits or requests waited; SAM_NO_MEMORY.
     pub fn sam_client_ask(client: *mut sam_client, event: *const sam_event, text: *const u8, len: usize) -> sam_status;
     /// Takes back the next insertion that waits over a file, if an edit could act at once and the file has no room for this one, because
     /// the host put more in meanwhile. Ask for it where the client is idle and edits wait over a free file. Copies its runes in UTF-8, all
@@ -1510,6 +1513,29 @@ extern "C" {
         bytes: *mut usize,
         runes: *mut u32,
     ) -> sam_status;
+    /// Hands out whether the terminal has opened the file. Returns SAM_NONE if the tag has no file.
+    pub fn sam_server_is_open(server: *mut sam_server, tag: u16, open: *mut bool) -> sam_status;
+    /// Hands out the length of the snarf buffer in runes.
+    pub fn sam_server_snarf_len(server: *mut sam_server, runes: *mut u32) -> sam_status;
+    /// Copies the snarf buffer from the place `place` on, as sam_host_snarf does.
+    pub fn sam_server_snarf(
+        server: *mut sam_server,
+        place: u32,
+        into: *mut u8,
+        room: usize,
+        bytes: *mut usize,
+        runes: *mut u32,
+    ) -> sam_status;
+    /// Hands out the number of the newest connection, or 0 before the first.
+    pub fn sam_server_attempt(server: *mut sam_server, attempt: *mut u64) -> sam_status;
+    /// Hands out the number of bytes that were put for the terminal, heads of packets included, also of those whose records are not
+    /// durable.
+    pub fn sam_server_put_count(server: *mut sam_server, count: *mut u64) -> sam_status;
+    /// Hands out the number of these bytes that the terminal has acknowledged. A program that is about to end says its last message, and
+    /// waits until this number is that of sam_server_put_count.
+    pub fn sam_server_acknowledged(server: *mut sam_server, count: *mut u64) -> sam_status;
+    /// Hands out the number of bytes of the terminal's stream that have come.
+    pub fn sam_server_received(server: *mut sam_server, count: *mut u64) -> sam_status;
     /// Begins with the server of a session that has taken nothing. The id is that of the session whose records they are. Refused, in this
     /// order: SAM_NO_HANDLE if the handle is NULL; SAM_MADE if it is made already; SAM_NO_MEMORY. The handle is then as it was.
     pub fn sam_recovery_new(recovery: *mut sam_recovery, id: *const u8) -> sam_status;
@@ -1523,6 +1549,15 @@ extern "C" {
     /// both handles are then as they were: SAM_NO_HANDLE if one of them is NULL, or the recovery's is empty; SAM_MADE if the server's is
     /// made already; SAM_NO_MEMORY.
     pub fn sam_recovery_finish(recovery: *mut sam_recovery, server: *mut sam_server) -> sam_status;
+    /// Makes in an empty handle, which is not that of this server, a server of another session that begins with the texts of this one, for
+    /// a terminal that takes them over. All files but the command file join it with the names and the texts that they have, in the order of
+    /// their tags: from tag 1 on, with no gap. Each makes a record, and these begin a journal of its own. So the texts are taken over once
+    /// that journal has the name of the old one. This server is as it was, and can go on until then. Which files are dirty, what was
+    /// written last, selections and the command file stay behind: mark a file as dirty once the terminal has its name. Refused, in this
+    /// order, and both handles are then as they were: SAM_NO_HANDLE if one of them is NULL, or this server's is empty; SAM_MADE if the
+    /// other is made already; SAM_WAITING if earlier work is left, for sam_server_go_on; SAM_SERVER_EFFECT_WAITS if an effect is not done,
+    /// also one that is not handed out yet; SAM_NO_MEMORY. A server that has stopped hands its texts on, too.
+    pub fn sam_server_heir(server: *mut sam_server, id: *const u8, heir: *mut sam_server) -> sam_status;
     /// Runs a script over a host and a terminal of its own, and hands out the output of its `show` lines, in bytes. It takes no handle.
     /// docs/reference/SCRIPTS.md explains the language. All lines are read before the first is done. At SAM_OK *out_len is the number of
     /// all bytes that are printed, and the first of them stand in `out`, as many as fit. The rest of the buffer is as it was. If *out_len

@@ -223,9 +223,10 @@ impl Client {
     }
 
     /// Asks for what is no edit. It stands in one order with the edits: it acts as the client goes on, once all edits before it are put,
-    /// and finds the text that is shown now, with the host's changes since. Errors, in this order, and the client is then as it was:
-    /// `NoMemory`, if it brings a text; `Waiting` while an edit was put that has not acted: go on first; `TooMany` if 1,000 requests wait;
-    /// `CountFull`; `NoMemory`.
+    /// and finds the text that is shown now, with the host's changes since. A place that it names moves with that text: what the host puts
+    /// in at the place itself stands behind it, and a range of which all goes is empty there; a place past the end of the text stays.
+    /// Errors, in this order, and the client is then as it was: `NoMemory`, if it brings a text; `Waiting` while an edit was put that has
+    /// not acted: go on first; `TooMany` if 1,000 requests wait; `CountFull`; `NoMemory`.
     pub fn ask(&mut self, event: Event<'_>) -> Result<(), Error> {
         let text = event.text();
         done(unsafe { sys::sam_client_ask(self.at(), &event.numbers(), text.as_ptr(), text.len()) })

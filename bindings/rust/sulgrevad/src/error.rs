@@ -168,7 +168,7 @@ family! {
 }
 
 family! {
-    /// The reason why a durable server has stopped, or a record is not taken again.
+    /// The reason why a durable server has stopped, or hands no texts on, or a record is not taken again.
     ServerFault {
         /// A stream would have 2^64 bytes, and the server has stopped.
         CountFull = SAM_SERVER_COUNT_FULL,
@@ -176,6 +176,8 @@ family! {
         NoRecord = SAM_SERVER_NO_RECORD,
         /// The records before it lead to no server that takes it.
         NotTaken = SAM_SERVER_NOT_TAKEN,
+        /// An effect is to be done before the texts are handed on. Only `heir` returns it.
+        EffectWaits = SAM_SERVER_EFFECT_WAITS,
     }
 }
 
@@ -218,7 +220,7 @@ pub enum Error {
     Link(LinkFault),
     /// Bytes are no message of a session, or a message isn't written.
     Note(NoteFault),
-    /// A durable server has stopped, or a record is not taken again.
+    /// A durable server has stopped, or hands no texts on, or a record is not taken again.
     Server(ServerFault),
     /// The first wrong line of a script, counted from 1; or if none is wrong the line at which nothing is there to take.
     ScriptLine(usize),
@@ -313,7 +315,7 @@ mod tests {
     use super::*;
 
     /// The numbers of sulgrevad.h, with the errors that they are.
-    const ERRORS: [(u32, Error); 55] = [
+    const ERRORS: [(u32, Error); 56] = [
         (1, Error::NoMemory),
         (2, Error::Unfinished),
         (3, Error::CountFull),
@@ -369,6 +371,7 @@ mod tests {
         (289, Error::Server(ServerFault::CountFull)),
         (290, Error::Server(ServerFault::NoRecord)),
         (291, Error::Server(ServerFault::NotTaken)),
+        (292, Error::Server(ServerFault::EffectWaits)),
     ];
 
     const REFUSALS: [(u32, Refusal); 8] = [

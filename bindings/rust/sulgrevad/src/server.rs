@@ -1,6 +1,6 @@
 //! A durable server: a host with its end of a link, which goes on after a crash from records of what it took.
 
-use crate::{done, part_of_text, short_text, tells, told, Error, HELLO_BYTES};
+use crate::{done, part_of_text, short_text, tells, told, whole_text, Error, HELLO_BYTES};
 use std::cell::UnsafeCell;
 use sulgrevad_sys::{self as sys, sam_effect, sam_recovery, sam_server};
 
@@ -163,6 +163,20 @@ impl DurableServer {
         done(unsafe { sys::sam_server_effect_done(self.at(), ending) })
     }
 
+    /// Returns a server of another session, which begins with the texts of this one, for a terminal that takes them over. All files but the
+    /// command file join it with their names and texts, in the order of their tags: from tag 1 on, with no gap. Its records begin a journal
+    /// of its own: once that has the name of the old one, the texts are taken over. Marks of dirty files, what was written last and
+    /// selections stay behind: call `mark_dirty` once the terminal has a file's name.
+    ///
+    /// Errors, in this order: `Waiting`, for `go_on`; `Server(EffectWaits)` before an effect is done; `NoMemory`.
+    pub fn heir(&self, id: [u8; sys::SAM_LINK_ID_BYTES]) -> Result<DurableServer, Error> {
+        let heir = DurableServer {
+            handle: Box::new(UnsafeCell::new(sam_server::INIT)),
+        };
+        done(unsafe { sys::sam_server_heir(self.at(), id.as_ptr(), heir.at()) })?;
+        Ok(heir)
+    }
+
     /// Returns whether the session is over: the terminal has sent Texit, or a command line was `q`.
     pub fn is_done(&self) -> bool {
         tells(|done| unsafe { sys::sam_server_is_done(self.at(), done) })
@@ -220,6 +234,45 @@ impl DurableServer {
         part_of_text(place, most, |place, into, bytes, runes| unsafe {
             sys::sam_server_saved(self.at(), tag, place, into.as_mut_ptr(), into.len(), bytes, runes)
         })
+    }
+
+    /// Returns whether the terminal has opened the file.
+    pub fn is_open(&self, tag: u16) -> Option<bool> {
+        told(|open| unsafe { sys::sam_server_is_open(self.at(), tag, open) })
+    }
+
+    /// Returns the text of the snarf buffer.
+    pub fn snarf(&self) -> String {
+        whole_text(|place, into, bytes, runes| unsafe {
+            sys::sam_server_snarf(self.at(), place, into.as_mut_ptr(), into.len(), bytes, runes)
+        })
+        .expect("the handle is made")
+    }
+
+    /// Returns the length of the snarf buffer in runes.
+    pub fn snarf_len(&self) -> u32 {
+        tells(|runes| unsafe { sys::sam_server_snarf_len(self.at(), runes) })
+    }
+
+    /// Returns the number of the newest connection, or 0 before the first.
+    pub fn attempt(&self) -> u64 {
+        tells(|attempt| unsafe { sys::sam_server_attempt(self.at(), attempt) })
+    }
+
+    /// Returns the number of bytes that were put for the terminal, heads of packets included, also of those whose records are not durable.
+    pub fn put_count(&self) -> u64 {
+        tells(|count| unsafe { sys::sam_server_put_count(self.at(), count) })
+    }
+
+    /// Returns the number of these bytes that the terminal has acknowledged. A program that is about to end says its last message, and
+    /// waits until this number is that of `put_count`.
+    pub fn acknowledged(&self) -> u64 {
+        tells(|count| unsafe { sys::sam_server_acknowledged(self.at(), count) })
+    }
+
+    /// Returns the number of bytes of the terminal's stream that have come.
+    pub fn received(&self) -> u64 {
+        tells(|count| unsafe { sys::sam_server_received(self.at(), count) })
     }
 }
 

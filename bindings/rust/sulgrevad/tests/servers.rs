@@ -99,9 +99,14 @@ fn a_server_goes_on_after_a_crash() {
         (server.tags(), server.has_file(1), server.has_file(2), server.is_done()),
         (2, true, false, false)
     );
+    assert_eq!((server.is_open(1), server.is_open(2)), (Some(true), None));
+    assert_eq!((server.snarf_len(), server.snarf().as_str()), (0, ""));
+    assert_eq!((server.attempt(), server.received() > 0), (attempt, true));
+    let put = server.put_count();
     server.ask().unwrap();
     server.acknowledge().unwrap();
     server.say(b"hi").unwrap();
+    assert_eq!((server.put_count() - put, server.acknowledged() <= put), (3 + 11 + 5, true));
     assert_eq!(server.take_out(attempt, &mut [0; 9]), Ok(0));
     assert_eq!((server.next_record(), server.next_record()), (Some(vec![6]), Some(vec![5])));
     server.durable(2);
@@ -126,4 +131,37 @@ fn records_that_lead_nowhere_are_refused() {
     assert_eq!(recovery.take(&done).err(), Some(Error::Server(ServerFault::NotTaken)));
     let recovery = Recovery::new(ID).unwrap().take(&journal[0]).unwrap();
     assert_eq!(recovery.finish().unwrap().text(1).as_deref(), Some("hello\n"));
+}
+
+#[test]
+fn another_terminal_takes_the_texts_over() {
+    const OTHER: [u8; 16] = *b"another sessions";
+    let (mut journal, mut term) = (Vec::new(), Terminal::new().unwrap());
+    let mut server = DurableServer::new(ID).unwrap();
+    let mut link = Link::new(Role::Terminal, ID).unwrap();
+    assert_eq!((server.add_file("notes", "hello\n"), server.add_file("more", "")), (Ok(1), Ok(2)));
+    let attempt = connect(&mut server, &mut link, &mut journal);
+    term.offer_version(2).unwrap();
+    term.open(1).unwrap();
+    term.type_(1, "b").unwrap();
+    term.write(1).unwrap();
+    carry(&mut server, &mut link, &mut term, attempt, &mut journal);
+    let refused = server.heir(OTHER).err();
+    assert_eq!(refused, Some(Error::Server(ServerFault::EffectWaits)));
+    server.effect_done(0).unwrap();
+
+    let mut heir = server.heir(OTHER).unwrap();
+    drop(server);
+    journal.clear();
+    record(&mut heir, &mut journal);
+    assert_eq!((journal.len(), &journal[0][1..]), (2, &b"\0\0\0\0\0\0\0\x05notesbhello\n"[..]));
+    let (mut term, mut link) = (Terminal::new().unwrap(), Link::new(Role::Terminal, OTHER).unwrap());
+    let attempt = connect(&mut heir, &mut link, &mut journal);
+    term.offer_version(2).unwrap();
+    term.open(1).unwrap();
+    term.type_(1, "a").unwrap();
+    carry(&mut heir, &mut link, &mut term, attempt, &mut journal);
+    drop(heir); // a crash
+    let heir = recover(OTHER, &journal).unwrap();
+    assert_eq!((heir.text(1).as_deref(), heir.text(2).as_deref()), (Some("abhello\n"), Some("")));
 }

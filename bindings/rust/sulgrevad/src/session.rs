@@ -1,0 +1,297 @@
+//! A client over connections of the program's own, each a half that is read and a half that is written.
+
+use crate::{Client, ClientEvent, Error, LineState, LinkFault, Splice, Tick};
+use std::fmt;
+use std::io::{self, ErrorKind, Read, Write};
+use std::net::{Shutdown, TcpStream};
+use std::process::ChildStdin;
+use std::sync::mpsc::{sync_channel, Receiver, SyncSender};
+use std::thread;
+use std::time::{Duration, Instant};
+
+/// Bytes that are moved together.
+const PIECE: usize = 65_536;
+/// Pieces that may wait for the session. A host that sends more waits.
+const MOST_WAITING: usize = 16;
+/// After so long what had no memory is tried again.
+const SHORT: Duration = Duration::from_millis(100);
+
+/// Why a session is over.
+#[derive(Clone, Copy, Debug, PartialEq, Eq)]
+#[non_exhaustive]
+pub enum SessionError {
+    /// The host has refused for good: another terminal has the session (`OtherSession`), or the host has lost it (`NoSession`).
+    Lost(LinkFault),
+    /// The client has stopped: the host's bytes are wrong (`Stream`, `TermRefused`), or a count is full.
+    Stopped(Error),
+}
+
+impl fmt::Display for SessionError {
+    fn fmt(&self, to: &mut fmt::Formatter<'_>) -> fmt::Result {
+        match self {
+            SessionError::Lost(why) => write!(to, "the session is lost: {why:?}"),
+            SessionError::Stopped(why) => write!(to, "the session has stopped: {why}"),
+        }
+    }
+}
+
+impl std::error::Error for SessionError {}
+
+/// The half of a connection that is written.
+pub trait WriteHalf: Write {
+    /// Ends the connection for its other half, too, so that a read there returns. If dropping this half does so there is nothing to do.
+    fn hang_up(&mut self) {}
+}
+
+impl WriteHalf for TcpStream {
+    fn hang_up(&mut self) {
+        let _ = self.shutdown(Shutdown::Both); // it may be over already
+    }
+}
+
+#[cfg(unix)]
+impl WriteHalf for std::os::unix::net::UnixStream {
+    fn hang_up(&mut self) {
+        let _ = self.shutdown(Shutdown::Both);
+    }
+}
+
+impl WriteHalf for ChildStdin {}
+
+enum Came {
+    Piece(u64, Vec<u8>),
+    End(u64),
+    Woken,
+}
+
+/// Wakes a session from another thread, as where keys are read.
+#[derive(Clone, Debug)]
+pub struct Waker(SyncSender<Came>);
+
+impl fmt::Debug for Came {
+    fn fmt(&self, to: &mut fmt::Formatter<'_>) -> fmt::Result {
+        to.write_str("Came")
+    }
+}
+
+impl Waker {
+    /// Has `go_on`, which waits for the host, return at once.
+    pub fn wake(&self) {
+        let _ = self.0.try_send(Came::Woken); // if there is no room it is awake
+    }
+}
+
+/// A client that connects again by itself. `open` makes a connection, as `TcpStream::connect` does: its two halves, or an error if there is
+/// none now. A thread reads each connection, so the session waits for the host and for a time limit alike.
+///
+/// Give `open` and the half that is written a limit (`connect_timeout`, `set_write_timeout`): meanwhile the session does nothing else. A
+/// write that fails ends the connection, and loses nothing.
+///
+/// ```no_run
+/// use sulgrevad::{Event, Session};
+/// use std::{net::TcpStream, time::Duration};
+///
+/// let mut session = Session::new([7; 16], false, || {
+///     let writer = TcpStream::connect("localhost:7000")?;
+///     Ok((writer.try_clone()?, writer))
+/// })?;
+/// session.client.ask(Event::OfferVersion(2))?;
+/// session.client.ask(Event::Open(1))?;
+/// loop {
+///     session.go_on(Duration::from_millis(50), |client, event, splices| {
+///         for splice in splices {} // each goes into the editor's own text
+///     })?;
+///     // The user types: session.client.replace(..)
+/// }
+/// # #[allow(unreachable_code)]
+/// # Ok::<(), Box<dyn std::error::Error>>(())
+/// ```
+pub struct Session<O, W: WriteHalf> {
+    /// The client. Edits and requests go to it: `replace`, `ask`, `put_note`; then go on.
+    pub client: Client,
+    open: O,
+    writer: Option<W>,
+    attempt: u64,
+    began: Instant,
+    is_short: bool,
+    sender: SyncSender<Came>,
+    came: Receiver<Came>,
+}
+
+impl<O, R, W> Session<O, W>
+where
+    O: FnMut() -> io::Result<(R, W)>,
+    R: Read + Send + 'static,
+    W: WriteHalf,
+{
+    /// Makes a session, whose first connection is made as it goes on. The id and `take_over` are those of [`Client::new`]. Its only error is
+    /// `NoMemory`.
+    pub fn new(id: [u8; 16], take_over: bool, open: O) -> Result<Session<O, W>, Error> {
+        let (sender, came) = sync_channel(MOST_WAITING);
+        let (client, began) = (Client::new(id, take_over, 0)?, Instant::now());
+        Ok(Session {
+            client,
+            open,
+            writer: None,
+            attempt: 0,
+            began,
+            is_short: false,
+            sender,
+            came,
+        })
+    }
+
+    /// Returns what wakes this session.
+    pub fn waker(&self) -> Waker {
+        Waker(self.sender.clone())
+    }
+
+    /// Returns the time that the client is told, in milliseconds.
+    pub fn now(&self) -> u64 {
+        self.began.elapsed().as_millis() as u64
+    }
+
+    /// Does what is due, waits until bytes of the host come, but for `limit` at most, and tells what happened: of each event the splices,
+    /// which go into the editor's own text. It returns once it has told something, was woken, or the time is over. The errors are final;
+    /// the client's texts can still be read.
+    pub fn go_on(&mut self, limit: Duration, mut tell: impl FnMut(&mut Client, ClientEvent, &[Splice])) -> Result<(), SessionError> {
+        let mut has_told = self.move_all(&mut tell)?;
+        let until = Instant::now() + limit;
+        while !has_told {
+            let left = until.saturating_duration_since(Instant::now());
+            match self.came.recv_timeout(self.rest(left)) {
+                Ok(Came::Piece(attempt, bytes)) => self.receive(attempt, &bytes),
+                Ok(Came::End(attempt)) => self.end(attempt),
+                Ok(Came::Woken) => return self.move_all(&mut tell).map(|_| ()),
+                Err(_) => {} // the time is over: the sender is here, too
+            }
+            has_told = self.move_all(&mut tell)? || left.is_zero();
+        }
+        Ok(())
+    }
+
+    /// Returns how long it may wait.
+    fn rest(&self, limit: Duration) -> Duration {
+        let due = self
+            .client
+            .due_in(self.now())
+            .map_or(limit, |left| limit.min(Duration::from_millis(left)));
+        if self.is_short {
+            due.min(SHORT)
+        } else {
+            due
+        }
+    }
+
+    /// Moves all that can move. Returns whether something was told.
+    fn move_all(&mut self, tell: &mut impl FnMut(&mut Client, ClientEvent, &[Splice])) -> Result<bool, SessionError> {
+        self.keep_line()?;
+        let mut has_told = false;
+        self.is_short = false;
+        loop {
+            match self.client.next_event(self.now()) {
+                Ok(ClientEvent::Idle) => break,
+                Ok(ClientEvent::Busy) => {}
+                Ok(event) => {
+                    let splices: Vec<Splice> = self.client.splices().collect();
+                    tell(&mut self.client, event, &splices);
+                    has_told = true;
+                }
+                Err(Error::Unfinished) => {
+                    self.is_short = true;
+                    break;
+                }
+                Err(why) => return Err(SessionError::Stopped(why)),
+            }
+        }
+        self.send();
+        Ok(has_told)
+    }
+
+    /// Does what the client wants of the connection at this time.
+    fn keep_line(&mut self) -> Result<(), SessionError> {
+        loop {
+            match self.client.tick(self.now()) {
+                Tick::Connect => self.connect()?,
+                Tick::Drop => self.hang_up(),
+                Tick::Ask => {} // which it does as it goes on
+                Tick::Nothing => break,
+            }
+        }
+        match self.client.describe(self.now()).state {
+            LineState::Lost(why) => Err(SessionError::Lost(why)),
+            _ => Ok(()),
+        }
+    }
+
+    fn connect(&mut self) -> Result<(), SessionError> {
+        self.hang_up();
+        let (reader, writer) = match (self.open)() {
+            Ok(halves) => halves,
+            Err(_) => {
+                self.client.not_connected(self.now());
+                return Ok(());
+            }
+        };
+        self.attempt = self.client.connected(self.now()).map_err(SessionError::Stopped)?;
+        self.writer = Some(writer);
+        let (attempt, sender) = (self.attempt, self.sender.clone());
+        thread::spawn(move || read(reader, attempt, &sender));
+        Ok(())
+    }
+
+    fn hang_up(&mut self) {
+        if let Some(mut writer) = self.writer.take() {
+            writer.hang_up();
+        }
+    }
+
+    fn end(&mut self, attempt: u64) {
+        self.client.broken(attempt, self.now());
+        if attempt == self.attempt {
+            self.hang_up();
+        }
+    }
+
+    /// Takes a piece. After a refusal the connection is over for the client; if memory was out, the next one brings the piece again.
+    fn receive(&mut self, attempt: u64, bytes: &[u8]) {
+        if attempt == self.attempt && self.client.receive(attempt, bytes, self.now()).is_err() {
+            self.end(attempt);
+        }
+    }
+
+    fn send(&mut self) {
+        let mut bytes = [0; PIECE];
+        while let Some(writer) = &mut self.writer {
+            match self.client.take_out(self.attempt, &mut bytes) {
+                Ok(0) => return,
+                Ok(count) if writer.write_all(&bytes[..count]).and_then(|()| writer.flush()).is_ok() => {}
+                _ => self.end(self.attempt),
+            }
+        }
+    }
+}
+
+impl<O, W: WriteHalf> Drop for Session<O, W> {
+    fn drop(&mut self) {
+        if let Some(writer) = &mut self.writer {
+            writer.hang_up();
+        }
+    }
+}
+
+/// Reads a connection until it is over, or the session is.
+fn read(mut reader: impl Read, attempt: u64, sender: &SyncSender<Came>) {
+    let mut bytes = vec![0; PIECE];
+    loop {
+        let came = match reader.read(&mut bytes) {
+            Ok(count) if count > 0 => Came::Piece(attempt, bytes[..count].to_vec()),
+            Err(why) if why.kind() == ErrorKind::Interrupted => continue,
+            _ => Came::End(attempt),
+        };
+        let is_over = matches!(came, Came::End(_));
+        if sender.send(came).is_err() || is_over {
+            return;
+        }
+    }
+}
