@@ -3,7 +3,7 @@ import { Held, PREFIX, ifAny, isFreed, make, makeOfBytes, one } from "./held.js"
 import { PIECE, bytesOut, call, least, lend, long, part, result, size, sizesAt, space, u32, u64 } from "./module.js";
 import { Status, errorOf } from "./status.js";
 
-export const ID_BYTES = 16;
+const ID_BYTES = 16;
 const HELLO_BYTES = 42;
 export const MOST_NOTE = 4096;
 export const MOST_BODY = 4096; // bytes that one packet has for the program
@@ -28,6 +28,13 @@ export const What = Object.freeze({
 export function bytesIn(bytes) {
   if (!(bytes instanceof Uint8Array)) throw new TypeError("a Uint8Array is wanted");
   return bytes;
+}
+
+/** Lends a call the id of a session: returns its place. */
+export function lendId(id) {
+  if (bytesIn(id).length !== ID_BYTES) throw new RangeError(`an id has ${ID_BYTES} bytes, not ${id.length}`);
+  part(space(), ID_BYTES).set(id);
+  return space();
 }
 
 /** Makes a call without a handle, of bytes that it is lent, and throws the error of its status, if that is not SAM_OK. */
@@ -62,9 +69,7 @@ export class Link extends Held {
   static OPEN = 2;
 
   constructor(role, id) {
-    if (bytesIn(id).length !== ID_BYTES) throw new RangeError(`an id has ${ID_BYTES} bytes, not ${id.length}`);
-    part(space(), ID_BYTES).set(id);
-    super(long(role), space());
+    super(long(role), lendId(id));
   }
 
   get [PREFIX]() {

@@ -1,7 +1,7 @@
 /* A terminal whose user never waits: the edits that wait are shown over its texts. */
 import { PREFIX, ifAny, isFreed, make, makeOfText, one } from "./held.js";
 import { bytesOf, lend, long, part, result, short, textOf, u16, u32, u64, withRoom } from "./module.js";
-import { Screened, Streams } from "./sides.js";
+import { Screened, Stepping, Streams } from "./sides.js";
 import { Status, errorOf } from "./status.js";
 
 const EVENT_SIZE = 16; // bytes of a sam_event
@@ -9,7 +9,7 @@ const SPLICES = [undefined, "came", "went", "filled", "emptied"]; // enum sam_sp
 const PUTS = ["nothing", "not free", "edit"]; // enum sam_put of sulgrevad.h
 const AT_REST = ["idle", "locked"];
 
-/** The events that an overlay takes (enum sam_event_kind of sulgrevad.h). */
+/** The events that an overlay or a client takes (enum sam_event_kind of sulgrevad.h). */
 export const EventKind = Object.freeze({
   SELECT: 1,
   DCLICK: 2,
@@ -37,52 +37,73 @@ export const EventKind = Object.freeze({
   PASTE_CMD: 24,
 });
 
+/** Makes a call that takes an event and its text. */
+export function makeOfEvent(side, name, kind, { tag = 0, start = 0, number = 0, version = 0, text = "" } = {}) {
+  const record = new DataView(new ArrayBuffer(EVENT_SIZE));
+  [kind, start, number].forEach((word, at) => record.setUint32(4 * at, long(word), true));
+  record.setUint16(12, short(tag), true);
+  record.setUint16(14, short(version), true);
+  const bytes = bytesOf(text) ?? new Uint8Array([0xff]); // so that the library refuses it
+  lend([new Uint8Array(record.buffer), bytes], (places) => {
+    if (places === null) throw errorOf(isFreed(side) ? Status.NO_HANDLE : Status.NO_MEMORY);
+    make(side, name, ...places, BigInt(bytes.length));
+  });
+}
+
+/** Adds to a class what overlay and client share: the shown texts, and how they change. */
+export const Shown = (Base) =>
+  class extends Screened(Base) {
+    replace(tag, start, end, text) {
+      makeOfText(this, "replace", [short(tag), long(start), long(end)], text);
+    }
+
+    dropNext(tag) {
+      const room = 4 * this.waiting(tag);
+      return withRoom(room, (at) => {
+        if (at === null) throw errorOf(Status.NO_MEMORY);
+        return ifAny(() => {
+          make(this, "drop_next", short(tag), result(0), at, BigInt(room), result(2));
+          return { tag: u16(1, 4), place: u32(0, 4), count: u32(1), text: textOf(part(at, u64(2))) };
+        });
+      });
+    }
+
+    nextSplice() {
+      return ifAny(() => {
+        make(this, "next_splice", result(0));
+        return { kind: SPLICES[u32(0)], tag: u16(1, 4), place: u32(0, 4), count: u32(1) };
+      });
+    }
+
+    *splices() {
+      for (let splice = this.nextSplice(); splice !== null; splice = this.nextSplice()) yield splice;
+    }
+
+    waiting(tag) {
+      return one(this, "waiting", u32, short(tag));
+    }
+
+    nextWaiting(from = 0) {
+      return ifAny(() => one(this, "next_waiting", u16, short(from)));
+    }
+
+    isWaiting(tag) {
+      return this.nextWaiting(tag) === tag;
+    }
+  };
+
 /** A terminal for an editor that has a text of its own and takes each key at once. */
-export class Overlay extends Screened(Streams) {
+export class Overlay extends Stepping(Shown(Streams)) {
   get [PREFIX]() {
     return "sam_overlay";
-  }
-
-  replace(tag, start, end, text) {
-    makeOfText(this, "replace", [short(tag), long(start), long(end)], text);
   }
 
   putNext(tag) {
     return PUTS[one(this, "put_next", u32, short(tag))];
   }
 
-  dropNext(tag) {
-    const room = 4 * this.waiting(tag);
-    return withRoom(room, (at) => {
-      if (at === null) throw errorOf(Status.NO_MEMORY);
-      return ifAny(() => {
-        make(this, "drop_next", short(tag), result(0), at, BigInt(room), result(2));
-        return { tag: u16(1, 4), place: u32(0, 4), count: u32(1), text: textOf(part(at, u64(2))) };
-      });
-    });
-  }
-
-  bringEvent(kind, { tag = 0, start = 0, number = 0, version = 0, text = "" } = {}) {
-    const record = new DataView(new ArrayBuffer(EVENT_SIZE));
-    [kind, start, number].forEach((word, at) => record.setUint32(4 * at, long(word), true));
-    record.setUint16(12, short(tag), true);
-    record.setUint16(14, short(version), true);
-    const bytes = bytesOf(text) ?? new Uint8Array([0xff]); // so that the library refuses it
-    lend([new Uint8Array(record.buffer), bytes], (places) => {
-      if (places === null) throw errorOf(isFreed(this) ? Status.NO_HANDLE : Status.NO_MEMORY);
-      make(this, "bring_event", ...places, BigInt(bytes.length));
-    });
-  }
-
-  nextSplice() {
-    return ifAny(() => {
-      make(this, "next_splice", result(0));
-      return { kind: SPLICES[u32(0)], tag: u16(1, 4), place: u32(0, 4), count: u32(1) };
-    });
-  }
-
-  *splices() {
-    for (let splice = this.nextSplice(); splice !== null; splice = this.nextSplice()) yield splice;
+  bringEvent(kind, fields) {
+    makeOfEvent(this, "bring_event", kind, fields);
   }
 
   *goOn(...tags) {
@@ -90,17 +111,5 @@ export class Overlay extends Screened(Streams) {
       yield* this.splices();
       while (!AT_REST.includes(this.step().step)) yield* this.splices();
     }
-  }
-
-  waiting(tag) {
-    return one(this, "waiting", u32, short(tag));
-  }
-
-  nextWaiting(from = 0) {
-    return ifAny(() => one(this, "next_waiting", u16, short(from)));
-  }
-
-  isWaiting(tag) {
-    return this.nextWaiting(tag) === tag;
   }
 }

@@ -1,4 +1,4 @@
-/* The two sides: their common parts, the host, and the terminal. */
+/* The two sides: what they share with each other, with overlay and client, the host, and the terminal. */
 import { Held, PREFIX, ifAny, isFreed, make, makeOfBytes, makeOfText, one } from "./held.js";
 import * as module from "./module.js";
 import { PIECE, clear, least, lend, long, result, short, size, space, truth, u16, u32, u64, u8 } from "./module.js";
@@ -52,8 +52,27 @@ function longText(side, name, place, most, ...words) {
   }
 }
 
-/** The streams and the texts that host, terminal and overlay share. */
-export class Streams extends Held {
+/** What can be read of host, terminal, overlay and client alike. */
+export class Texts extends Held {
+  get faultPlace() {
+    return ifAny(() => one(this, "fault_place", u64));
+  }
+
+  name(tag) {
+    return shortText(this, "name", MOST_IN_NAME, short(tag));
+  }
+
+  len(tag) {
+    return one(this, "len", u32, short(tag));
+  }
+
+  text(tag, place = 0, runes = undefined) {
+    return longText(this, "text", place, runes, short(tag));
+  }
+}
+
+/** The streams of host, terminal and overlay. */
+export class Streams extends Texts {
   bring(bytes) {
     if (!(bytes instanceof Uint8Array)) throw new TypeError("what is brought is a Uint8Array");
     makeOfBytes(this, "bring", [], bytes);
@@ -61,10 +80,6 @@ export class Streams extends Held {
 
   finish() {
     make(this, "finish");
-  }
-
-  get faultPlace() {
-    return ifAny(() => one(this, "fault_place", u64));
   }
 
   get pending() {
@@ -79,18 +94,6 @@ export class Streams extends Held {
       at += u64(0);
     }
     return bytes;
-  }
-
-  name(tag) {
-    return shortText(this, "name", MOST_IN_NAME, short(tag));
-  }
-
-  len(tag) {
-    return one(this, "len", u32, short(tag));
-  }
-
-  text(tag, place = 0, runes = undefined) {
-    return longText(this, "text", place, runes, short(tag));
   }
 }
 
@@ -118,14 +121,18 @@ class Side extends Streams {
   }
 }
 
-/** Adds to a class what terminal and overlay share. */
-export const Screened = (Base) =>
+/** Returns the step of a terminal that a call has handed out at result(0). */
+export function terminalStep() {
+  const change = { start: u32(3), gone: u32(3, 4), came: u32(4) };
+  return { step: STEPS[u32(2)], kind: didKind(), tag: didTag(), change, loads: didLoads(), event: u64(0), why: u32(2, 4) };
+}
+
+/** Adds to a class the steps of terminal and overlay. */
+export const Stepping = (Base) =>
   class extends Base {
     step() {
       make(this, "step", result(0));
-      const [start, gone, came] = [u32(3), u32(3, 4), u32(4)];
-      const change = { start, gone, came };
-      return { step: STEPS[u32(2)], kind: didKind(), tag: didTag(), change, loads: didLoads(), event: u64(0), why: u32(2, 4) };
+      return terminalStep();
     }
 
     nextRefusal() {
@@ -138,7 +145,11 @@ export const Screened = (Base) =>
     *refusals() {
       for (let refusal = this.nextRefusal(); refusal !== null; refusal = this.nextRefusal()) yield refusal;
     }
+  };
 
+/** Adds to a class what can be read of terminal, overlay and client. */
+export const Screened = (Base) =>
+  class extends Base {
     /** Reads a sam_state: seven numbers of 64 bits, two of 32, one of 16, and two truths. */
     state() {
       make(this, "state", result(0));
@@ -265,7 +276,7 @@ export class Host extends Side {
 }
 
 /** The side with the windows. */
-export class Terminal extends Screened(Side) {
+export class Terminal extends Stepping(Screened(Side)) {
   get [PREFIX]() {
     return "sam_term";
   }

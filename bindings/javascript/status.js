@@ -79,6 +79,7 @@ export const Status = Object.freeze({
   SERVER_COUNT_FULL: 289,
   SERVER_NO_RECORD: 290,
   SERVER_NOT_TAKEN: 291,
+  SERVER_EFFECT_WAITS: 292,
 });
 
 /** The kinds of messages and frames (enum sam_kind of sulgrevad.h); docs/reference/PROTOCOL.md says what each means. */

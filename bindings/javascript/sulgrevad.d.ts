@@ -137,6 +137,7 @@ export declare const Status: {
   readonly SERVER_COUNT_FULL: 289;
   readonly SERVER_NO_RECORD: 290;
   readonly SERVER_NOT_TAKEN: 291;
+  readonly SERVER_EFFECT_WAITS: 292;
 };
 
 /** Returns the name of a status and a sentence about it, or "unknown status" for any other number. */
@@ -200,7 +201,7 @@ export declare class ScriptFault extends SamError {
 /** Returns the error of a status code. */
 export declare function errorOf(code: number): SamError;
 
-/** A handle, which host, terminal, overlay and link share. */
+/** A handle, which host, terminal, overlay, link, line and client share. */
 declare class Held {
   /** Frees it, with all the bytes that are pending or kept. Any later call but this one throws HandleFault. */
   free(): void;
@@ -514,8 +515,8 @@ export declare class Terminal extends Side {
   readonly exited: boolean;
 }
 
-/** The events that an overlay takes: those that leave each text but that of the command file. Each does what the method of a terminal does
- * that has its name; those of _CMD do it at the command file. */
+/** The events that an overlay or a client takes: those that leave each text but that of the command file. Each does what the method of a
+ * terminal does that has its name; those of _CMD do it at the command file. */
 export declare const EventKind: {
   readonly SELECT: 1;
   readonly DCLICK: 2;
@@ -543,78 +544,28 @@ export declare const EventKind: {
   readonly PASTE_CMD: 24;
 };
 
+/** The fields of an event: 0 or empty if they are not given. */
+export type EventFields = { tag?: number; start?: number; number?: number; version?: number; text?: Text };
+
 /** A change of the shown text of a file. `came`: `count` runes or gaps came in at the place; `went`: so many from the place on went;
  * `filled`: the runes from the place on are loaded now, and nothing moved; `emptied`: the text is empty, because the file was opened or
  * closed. Of several by one step each is made in the text that the ones before it left. */
 export type Splice = { kind: "came" | "went" | "filled" | "emptied"; tag: number; place: number; count: number };
 
-/** Runes that an overlay gives back, because the host left no room for them: `count` of them went of the shown text at the place, which is
- * 0 if a later edit had taken them out, and `text` is all of them. */
+/** Runes that an overlay or a client gives back, because the host left no room for them: `count` of them went of the shown text at the
+ * place, which is 0 if a later edit had taken them out, and `text` is all of them. */
 export type Dropped = { tag: number; place: number; count: number; text: string };
 
-/** A terminal for an editor that has a text of its own and takes each key at once. What the user does is shown at once, also while the file
- * is locked. Until the file is free it waits over the terminal's text, and the host's changes go through it.
- *
- *     overlay.replace(tag, 5, 5, "!");              the user typed: it is shown from now on
- *     overlay.bring(bytes);                         bytes of the host
- *     for (const splice of overlay.goOn(tag)) ..    it goes on as far as it can, and puts what waits over this file
- *     socket.send(overlay.takeOut());               bytes for the host
- *
- * Places count runes and gaps of the shown text. An editor that takes each splice before it tells of an edit has the shown text as its own,
- * and its places are always right. A replacement makes no splice. */
-export declare class Overlay extends Held {
-  /** Replaces the shown runes from the place `start` to the place `end` by a text of any length, all or nothing. The new runes stand behind
-   * what is shown before `start`. They are shown at once, and wait for `putNext`; no lock refuses them. Throws, in this order, and the
-   * overlay is then as it was: NotText; NoMemory; a SamError with the code WAITING if splices are left; EditRefused (REFUSAL_EXITED); the
-   * fault by which the terminal has stopped; EditRefused (REFUSAL_NO_FILE, REFUSAL_COMMAND_FILE for tag 0, REFUSAL_NOT_OPEN,
-   * REFUSAL_BAD_POSITION for a range that the shown text doesn't have, REFUSAL_TOO_LONG if these runes, the terminal's text and all that
-   * waits over it are more than 1,000,000); NoMemory, also while an edit of the file was put that has not acted. */
-  replace(tag: number, start: number, end: number, text: Text): void;
-  /** Puts the next edit of those that wait over a file as an event, if it can act at once, and returns what became of it: `nothing` if none
-   * waits; `not free` if it waits on; `edit` if it was put: the next step has it act. Throws, in this order, and the overlay is then as it
-   * was: the fault by which the terminal has stopped; EditRefused (REFUSAL_TOO_LONG) if the file would have more than 1,000,000 runes,
-   * because the host put more in meanwhile; CountFull; NoMemory. */
-  putNext(tag: number): "nothing" | "not free" | "edit";
-  /** Takes back the next insertion that waits over a file, if an edit could act at once and the file has no room for this one: that is
-   * where `putNext` throws EditRefused (REFUSAL_TOO_LONG). Returns it; null if nothing is to be taken back. Throws, in this order, and
-   * the overlay is then as it was: a SamError with the code WAITING if splices are left; NoMemory. */
-  dropNext(tag: number): Dropped | null;
-  /** Takes an event, by its number in EventKind; `step` has it act. `start` and `number` are the range of SELECT; for DCLICK, VIEW and LOAD
-   * the place and how many runes; for SCROLL `number` is how many lines. `version` is that of OFFER_VERSION, `text` that of SET_SNARF and
-   * TYPE_CMD. An event acts on the terminal's text, so put all that waits over its file first. Throws, in this order, and the overlay is
-   * then as it was: NotText; NoMemory; Missing if no event has this kind; the fault by which the terminal has stopped; a SamError with the
-   * code WAITING until a step was idle or locked, and while an edit was put that has not acted; CountFull; NoMemory. */
-  bringEvent(kind: number, fields?: { tag?: number; start?: number; number?: number; version?: number; text?: Text }): void;
-  /** Takes bytes of the host, in pieces of any length, and goes no further: `step` does the work. Throws, in this order, and the bytes are
-   * then not taken: the fault by which the terminal has stopped before; a SamError with the code WAITING until a step was idle or locked,
-   * and while an edit was put that has not acted; CountFull; NoMemory. */
-  bring(bytes: Uint8Array): void;
-  /** Makes one step with the frames and events that wait, as that of a terminal, and returns its result, whose change is that of the
-   * terminal's text. `splices` then has the changes of the shown text. Throws, in this order: a SamError with the code WAITING if
-   * splices of an earlier step are left; the fault by which the terminal has stopped; Unfinished if memory is short, and nothing has
-   * changed; the fault by which the terminal stops at this step. */
-  step(): TerminalStep;
+/** What overlay and client share: the shown texts, how they change, and what can be read of the terminal. */
+declare class Shown extends Held {
   /** Returns the next change of the shown text by the last step; null if none is left. */
   nextSplice(): Splice | null;
   /** Yields the changes of the shown text by the last step that were not handed out yet. */
   splices(): Generator<Splice, void>;
-  /** Makes all steps that can be made without the host, puts what waits over these files as they are free, and yields each change of the
-   * shown text. Take all: it goes no further than they are taken. Throws as `step` and `putNext` do. */
-  goOn(...tags: number[]): Generator<Splice, void>;
-  /** Tests whether the host's stream may end here, as that of a terminal does. It changes nothing. */
-  finish(): void;
-  /** Returns the number of bytes of the host's stream before the frame that is wrong, if the terminal has stopped by StreamFault; null
-   * if it goes on, or has stopped because of a refusal. */
-  readonly faultPlace: number | null;
-  /** Returns the number of bytes that are pending for the host. */
-  readonly pending: number;
-  /** Moves out the pending bytes, all or the first `most`, and returns them. */
-  takeOut(most?: number): Uint8Array;
-  /** Returns the oldest refused event that was not handed out yet, by its number among all events and all edits that were put; null if
-   * there is none. */
-  nextRefusal(): Refusal | null;
-  /** Yields the refused events that were not handed out yet, oldest first. */
-  refusals(): Generator<Refusal, void>;
+  /** Takes back the next insertion that waits over a file, if an edit could act at once and the file has no room for this one: that is
+   * where `putNext` of an overlay throws EditRefused (REFUSAL_TOO_LONG). Returns it; null if nothing is to be taken back. Throws, in this
+   * order, and all is then as it was: a SamError with the code WAITING if splices are left; NoMemory. */
+  dropNext(tag: number): Dropped | null;
   /** Returns the state of the terminal by one call. */
   state(): TerminalState;
   /** Returns the state of a file by one call. A tag without a file is no error. Length, dot and view are those of the terminal's text. */
@@ -627,6 +578,9 @@ export declare class Overlay extends Held {
   readonly pattern: string;
   /** Returns the snarfed text that the host sent last (GET_SNARF), from the place `place` on: at most `runes` runes, or all. */
   snarfed(place?: number, runes?: number): string;
+  /** Returns the number of bytes of the host's stream before the frame that is wrong, if the terminal has stopped by StreamFault; null
+   * if it goes on, or has stopped because of a refusal. */
+  readonly faultPlace: number | null;
   /** Returns the number of runes that wait over a file, those that a later edit takes out among them. It is 0 if the file is not open,
    * or if only what takes runes out waits. */
   waiting(tag: number): number;
@@ -645,6 +599,60 @@ export declare class Overlay extends Held {
   /** Returns the shown text of an open file from the place `place` on, up to the first rune that is not loaded: at most `runes` runes, or
    * all. Throws Missing if the file is not open. */
   text(tag: number, place?: number, runes?: number): string;
+}
+
+/** A terminal for an editor that has a text of its own and takes each key at once. What the user does is shown at once, also while the file
+ * is locked. Until the file is free it waits over the terminal's text, and the host's changes go through it.
+ *
+ *     overlay.replace(tag, 5, 5, "!");              the user typed: it is shown from now on
+ *     overlay.bring(bytes);                         bytes of the host
+ *     for (const splice of overlay.goOn(tag)) ..    it goes on as far as it can, and puts what waits over this file
+ *     socket.send(overlay.takeOut());               bytes for the host
+ *
+ * Places count runes and gaps of the shown text. An editor that takes each splice before it tells of an edit has the shown text as its own,
+ * and its places are always right. A replacement makes no splice. */
+export declare class Overlay extends Shown {
+  /** Replaces the shown runes from the place `start` to the place `end` by a text of any length, all or nothing. The new runes stand behind
+   * what is shown before `start`. They are shown at once, and wait for `putNext`; no lock refuses them. Throws, in this order, and the
+   * overlay is then as it was: NotText; NoMemory; a SamError with the code WAITING if splices are left; EditRefused (REFUSAL_EXITED); the
+   * fault by which the terminal has stopped; EditRefused (REFUSAL_NO_FILE, REFUSAL_COMMAND_FILE for tag 0, REFUSAL_NOT_OPEN,
+   * REFUSAL_BAD_POSITION for a range that the shown text doesn't have, REFUSAL_TOO_LONG if these runes, the terminal's text and all that
+   * waits over it are more than 1,000,000); NoMemory, also while an edit of the file was put that has not acted. */
+  replace(tag: number, start: number, end: number, text: Text): void;
+  /** Puts the next edit of those that wait over a file as an event, if it can act at once, and returns what became of it: `nothing` if none
+   * waits; `not free` if it waits on; `edit` if it was put: the next step has it act. Throws, in this order, and the overlay is then as it
+   * was: the fault by which the terminal has stopped; EditRefused (REFUSAL_TOO_LONG) if the file would have more than 1,000,000 runes,
+   * because the host put more in meanwhile; CountFull; NoMemory. */
+  putNext(tag: number): "nothing" | "not free" | "edit";
+  /** Takes an event, by its number in EventKind; `step` has it act. `start` and `number` are the range of SELECT; for DCLICK, VIEW and LOAD
+   * the place and how many runes; for SCROLL `number` is how many lines. `version` is that of OFFER_VERSION, `text` that of SET_SNARF and
+   * TYPE_CMD. An event acts on the terminal's text, so put all that waits over its file first. Throws, in this order, and the overlay is
+   * then as it was: NotText; NoMemory; Missing if no event has this kind; the fault by which the terminal has stopped; a SamError with the
+   * code WAITING until a step was idle or locked, and while an edit was put that has not acted; CountFull; NoMemory. */
+  bringEvent(kind: number, fields?: EventFields): void;
+  /** Takes bytes of the host, in pieces of any length, and goes no further: `step` does the work. Throws, in this order, and the bytes are
+   * then not taken: the fault by which the terminal has stopped before; a SamError with the code WAITING until a step was idle or locked,
+   * and while an edit was put that has not acted; CountFull; NoMemory. */
+  bring(bytes: Uint8Array): void;
+  /** Makes one step with the frames and events that wait, as that of a terminal, and returns its result, whose change is that of the
+   * terminal's text. `splices` then has the changes of the shown text. Throws, in this order: a SamError with the code WAITING if
+   * splices of an earlier step are left; the fault by which the terminal has stopped; Unfinished if memory is short, and nothing has
+   * changed; the fault by which the terminal stops at this step. */
+  step(): TerminalStep;
+  /** Makes all steps that can be made without the host, puts what waits over these files as they are free, and yields each change of the
+   * shown text. Take all: it goes no further than they are taken. Throws as `step` and `putNext` do. */
+  goOn(...tags: number[]): Generator<Splice, void>;
+  /** Tests whether the host's stream may end here, as that of a terminal does. It changes nothing. */
+  finish(): void;
+  /** Returns the number of bytes that are pending for the host. */
+  readonly pending: number;
+  /** Moves out the pending bytes, all or the first `most`, and returns them. */
+  takeOut(most?: number): Uint8Array;
+  /** Returns the oldest refused event that was not handed out yet, by its number among all events and all edits that were put; null if
+   * there is none. */
+  nextRefusal(): Refusal | null;
+  /** Yields the refused events that were not handed out yet, oldest first. */
+  refusals(): Generator<Refusal, void>;
 }
 
 /** The kinds of a hello: a terminal says one of the first three, a host one of the others. */
@@ -763,7 +771,7 @@ export declare class Link extends Held {
   readonly received: number;
 }
 
-/** What a program is to do for its line (enum sam_tick of sulgrevad.h). */
+/** What a program is to do for its line or its client (enum sam_tick of sulgrevad.h). */
 export declare const Tick: {
   readonly NOTHING: 0;
   readonly CONNECT: 1;
@@ -790,29 +798,14 @@ export type LineDetails = {
   hasAll: boolean;
 };
 
-/** The terminal's end of a link, which also decides when a connection is to be made, when the host is to be asked, and when the connection
- * is to be given up. It opens no connection and has no clock: calls take the time, in whole milliseconds of any clock that doesn't jump, as
- * `Math.floor(performance.now())`. A time below the greatest that was handed in counts as the greatest:
- *
- *     line.tick(now);                             CONNECT: open a connection; DROP: close it; ASK: line.ask(now); until NOTHING
- *     const attempt = line.connected(now);        it is open; or line.notConnected(now)
- *     socket.send(line.takeOut(attempt));         the hello first; again after each put, question and piece
- *     line.receive(attempt, bytes, now);          all bytes that came
- *     line.takeIn();                              the program's bytes among them, until there are none; then nextNote()
- *     line.dueIn(now);                            for so long nothing is to be done
- *
- * A put, a note and a piece are taken whole or not at all. */
-export declare class Line extends Held {
+/** What line and client share: their connections, what comes on these, and how they stand. */
+declare class Clocked extends Held {
   static readonly DOWN: 0;
   static readonly CONNECTING: 1;
   static readonly OPEN: 2;
   static readonly LATE: 3;
   static readonly LOST: 4;
 
-  /** Makes a line, whose first connection is due at once. The id is the session's name: 16 bytes that the terminal chose at random. It is
-   * no secret. With `takeOver`, the session is to begin with the texts of another, as long as no host has welcomed this line. Throws
-   * RangeError for an id of another length, NoMemory. */
-  constructor(id: Uint8Array, takeOver: boolean, now: number);
   /** Returns what the program is to do at this time, by the numbers of Tick. What it returns counts as begun: another call at the same time
    * returns something else, so call it until it returns NOTHING. DROP means that the connection, or the attempt to make one, is over for
    * the line. */
@@ -835,15 +828,9 @@ export declare class Line extends Held {
    * call says otherwise. While the program waits an answer is due, though the host has acknowledged all that was put: if no byte comes for
    * 15 seconds, the connection is late, so call `ask`, and if none comes for 15 more, it is given up. */
   expect(expects: boolean, now: number): void;
-  /** Puts bytes for the host's program, all or none, with or without a connection. Throws, in this order: CountFull if the stream would
-   * have more than 2^64-1 bytes; NoMemory. */
-  put(bytes: Uint8Array, now: number): void;
   /** Puts a note behind all bytes that were put: it comes out after these bytes and before later ones. Throws, in this order: LinkFault
    * (LINK_TOO_LONG) for more than 4,096 bytes; CountFull; NoMemory. */
   putNote(bytes: Uint8Array, now: number): void;
-  /** Asks the host whether all has come, if something that was put is not acknowledged, or the line is late; but not while such a question
-   * is under way. So it may be called after each put and each piece. Throws, in this order: CountFull; NoMemory. */
-  ask(now: number): void;
   /** Acknowledges all bytes that have come. The line does so by itself when it is asked, and after each 16,384 bytes. Throws, in this
    * order: CountFull; NoMemory. */
   acknowledge(): void;
@@ -857,15 +844,278 @@ export declare class Line extends Held {
    * of these but the first the connection is over. Throws NoMemory at any place: the connection stays, and the same bytes are to be given
    * again. */
   receive(attempt: number, bytes: Uint8Array, now: number): void;
+  /** Returns the state, the counts and the times of the line. */
+  describe(now: number): LineDetails;
+  /** Returns the words that came on the newest connection before the host's hello, perhaps of a login. They need be no text. */
+  readonly words: Uint8Array;
+}
+
+/** The terminal's end of a link, which also decides when a connection is to be made, when the host is to be asked, and when the connection
+ * is to be given up. It opens no connection and has no clock: calls take the time, in whole milliseconds of any clock that doesn't jump, as
+ * `Math.floor(performance.now())`. A time below the greatest that was handed in counts as the greatest:
+ *
+ *     line.tick(now);                             CONNECT: open a connection; DROP: close it; ASK: line.ask(now); until NOTHING
+ *     const attempt = line.connected(now);        it is open; or line.notConnected(now)
+ *     socket.send(line.takeOut(attempt));         the hello first; again after each put, question and piece
+ *     line.receive(attempt, bytes, now);          all bytes that came
+ *     line.takeIn();                              the program's bytes among them, until there are none; then nextNote()
+ *     line.dueIn(now);                            for so long nothing is to be done
+ *
+ * A put, a note and a piece are taken whole or not at all. */
+export declare class Line extends Clocked {
+  /** Makes a line, whose first connection is due at once. The id is the session's name: 16 bytes that the terminal chose at random. It is
+   * no secret. With `takeOver`, the session is to begin with the texts of another, as long as no host has welcomed this line. Throws
+   * RangeError for an id of another length, NoMemory. */
+  constructor(id: Uint8Array, takeOver: boolean, now: number);
+  /** Puts bytes for the host's program, all or none, with or without a connection. Throws, in this order: CountFull if the stream would
+   * have more than 2^64-1 bytes; NoMemory. */
+  put(bytes: Uint8Array, now: number): void;
+  /** Asks the host whether all has come, if something that was put is not acknowledged, or the line is late; but not while such a question
+   * is under way. So it may be called after each put and each piece. Throws, in this order: CountFull; NoMemory. */
+  ask(now: number): void;
   /** Returns the next bytes of the host's program, at most `most` and of one packet. Call it until it returns none: then a note is next, or
    * nothing. */
   takeIn(most?: number): Uint8Array;
   /** Returns the note that is next; null if bytes before it are not taken in yet, or if none has come. */
   nextNote(): Uint8Array | null;
-  /** Returns the state, the counts and the times of the line. */
-  describe(now: number): LineDetails;
-  /** Returns the words that came on the newest connection before the host's hello, perhaps of a login. They need be no text. */
-  readonly words: Uint8Array;
+}
+
+/** What a client tells as it goes on. `idle`: nothing moves until the host or the user does something, or the time comes; `busy`: 1,000
+ * things moved that are not told, and more may; `stepped`: `did` says which frame was received or which event acted, and the splices are
+ * to be taken; `refused`: an event was refused, whose number and reason `did` has; `note`: a note came, which `note` of the client has. */
+export type ClientEvent =
+  { kind: "idle" | "busy" | "note"; did: null } | { kind: "stepped" | "refused"; did: TerminalStep };
+
+/** The user's side of a session in one handle, for a front end whose user never waits, over connections that may break: an overlay, and its
+ * line to the host. It moves all between the two by itself. It opens no connection and has no clock: calls take the time, as those of a
+ * line. `Session` is the same over WebSockets, with promises.
+ *
+ *     client.tick(now);                               CONNECT: open a connection; DROP: close it; until NOTHING
+ *     const attempt = client.connected(now);          it is open; or client.notConnected(now)
+ *     client.receive(attempt, bytes, now);            all bytes that came on it; or client.broken(attempt, now)
+ *     client.replace(tag, 5, 5, "!");                 the user typed: it is shown from now on
+ *     client.ask(EventKind.WRITE, { tag });           the user asked for something else
+ *     for (const told of client.goOn(now)) ..         after any of these: a Splice goes into the editor's own text, a ClientEvent tells
+ *                                                     of steps, refusals and notes
+ *     socket.send(client.takeOut(attempt));           bytes for the connection
+ *     client.dueIn(now);                              for so long nothing is to be done
+ *
+ * Places count runes and gaps of the shown text. An editor that takes each splice before it tells of an edit has the shown text as its own.
+ * A replacement makes no splice. A connection that breaks takes nothing of what the user did. */
+export declare class Client extends Clocked {
+  /** Makes a client that knows no file, and whose first connection is due at once. The id is the session's name: 16 bytes that the terminal
+   * chose at random. It is no secret. With `takeOver`, the session is to begin with the texts of another, as long as no host has welcomed
+   * this client. Then ask for OFFER_VERSION. Throws RangeError for an id of another length, NoMemory. */
+  constructor(id: Uint8Array, takeOver: boolean, now: number);
+  /** Goes on until there is something to tell, and returns it. Call it after each call that brought something, until its kind is `idle`,
+   * and take all splices before each call. Throws, in this order: a SamError with the code WAITING if splices are left, and all is as it
+   * was. Else some of what waited may be done, and nothing is lost: the fault by which the terminal has stopped, at this call or before;
+   * CountFull; Unfinished if memory is short: call it again later. */
+  nextEvent(now: number): ClientEvent;
+  /** Goes on until nothing moves, and yields what is told, but for `idle` and `busy`, and behind each step the changes of the shown text.
+   * Take all: it goes no further than they are taken. Throws as `nextEvent` does. */
+  goOn(now: number): Generator<ClientEvent | Splice, void>;
+  /** Returns the note that was told last; none before the first. */
+  readonly note: Uint8Array;
+  /** Replaces the shown runes from the place `start` to the place `end` by a text of any length, all or nothing. The new runes stand behind
+   * what is shown before `start`. They are shown at once, whatever is locked, and go to the host as the client goes on; no request that was
+   * asked for before finds them. Throws as `replace` of an overlay does, in its order; but before its EditRefused (REFUSAL_EXITED) comes
+   * that if a request waits that ends the session, and then EditRefused (REFUSAL_NOT_OPEN) if one waits that closes the file. */
+  replace(tag: number, start: number, end: number, text: Text): void;
+  /** Asks for what is no edit, by its number in EventKind. It stands in one order with the edits: it acts as the client goes on, once
+   * all edits before it are put, and finds the text that is shown now, with the host's changes since. The fields are those of
+   * `bringEvent` of an overlay. Throws, in this order, and the client is then as it was: NotText; NoMemory; Missing if no event has this
+   * kind; a SamError with the code WAITING while an edit was put that has not acted: go on first; one with the code TOO_MANY if 1,000
+   * requests wait; CountFull; NoMemory. */
+  ask(kind: number, fields?: EventFields): void;
+  /** Returns whether the host has all that the user did, and all notes: nothing waits here, and the host's end of the link has acknowledged
+   * all. */
+  readonly hasAll: boolean;
+  /** Returns whether the shown text of a file may differ from the text that was written last. It is false for a tag without a file, and for
+   * tag 0. */
+  isUnsaved(tag: number): boolean;
+  /** Returns the number of requests that wait, those not among them that the terminal has. */
+  readonly requests: number;
+}
+export interface Client extends Shown {}
+
+/** The session is over: it was left here, or its host has ended it. `status` is the exit status that the host told; else null. */
+export declare class SessionOver extends Error {
+  status: number | null;
+}
+
+/** The session is lost: its host doesn't know it any more, another terminal has taken it over (LINK_OTHER_SESSION; `by` names its machine),
+ * or the host's bytes are wrong. `code` is the status that says which. The texts can still be read. */
+export declare class SessionLost extends SamError {
+  by: string;
+}
+
+/** The host didn't do what was asked for: `note` is its answer, with a `code` of NoteCode and a `text` for people. */
+export declare class RequestRefused extends Error {
+  note: Note;
+}
+
+/** What a session needs of a WebSocket. */
+export type Socket = {
+  binaryType: string;
+  readonly readyState: number;
+  readonly bufferedAmount: number;
+  onopen: ((event: any) => any) | null;
+  onmessage: ((event: any) => any) | null;
+  onclose: ((event: any) => any) | null;
+  send(bytes: any): void;
+  close(): void;
+};
+
+/** How a session begins: its id, 16 random bytes if none is given; whether it begins with the texts of another terminal's session, if the
+ * host has one; and how many of its connections count as failed already, which makes the pauses between the next ones longer. */
+export type SessionOptions = { id?: Uint8Array; takeOver?: boolean; failures?: number };
+
+/** A splice as a session tells it: `isGap` says that nothing of what came is loaded. */
+export type ToldSplice = Splice & { isGap: boolean };
+
+/** What the events of a session have as their `detail`. `splice`: a change of a shown text, which goes into the editor's own text before
+ * the handler returns; `dropped`: runes that the user typed, and for which the host left no room: their splice was told before; `note`:
+ * a message of the host; `line`: the state of the line is another; `fault`: what came has ended a connection, as a host's word that it
+ * doesn't find the session, which may be there a little later; `rest`: all has moved that can; `over`: the session is over, and why. */
+export type SessionEvents = {
+  splice: ToldSplice;
+  dropped: Dropped;
+  note: Note;
+  line: LineDetails;
+  fault: SamError;
+  rest: null;
+  over: SessionOver | SessionLost;
+};
+
+/** A session at a host, over WebSockets that may break: each carries a link, and its messages are pieces of that. It connects again by
+ * itself, and edits show at once with or without a connection.
+ *
+ *     const session = new Session("wss://box.example/line");
+ *     session.addEventListener("splice", ({ detail }) => ..);    a change by the host goes into the editor's own text
+ *     const notes = await session.open("notes");
+ *     notes.insert(0, "Shopping\n");
+ *     await notes.write();
+ *
+ * Each promise is answered once: by an answer, or by SessionOver or SessionLost if none can come. A request may wait as long as the line is
+ * broken. If memory is out, a call that throws NoMemory has changed nothing; what was taken is kept, and tried again after a tenth of a
+ * second. The host speaks the messages of docs/reference/SESSION.md, as samhost does, and `serve` of Python. */
+export declare class Session extends EventTarget {
+  /** Begins a session: over WebSockets to an address, or over what a function returns for each connection. If that throws, the session is
+   * over. Throws RangeError for an id of another length, NoMemory. */
+  constructor(connect: string | URL | (() => Socket), options?: SessionOptions);
+  /** Calls a listener for each event of a type: `event.detail` is what SessionEvents says. */
+  addEventListener<Type extends keyof SessionEvents>(
+    type: Type,
+    listener: (event: CustomEvent<SessionEvents[Type]>) => void,
+    options?: any,
+  ): void;
+  /** Calls a listener for each event of any other type. */
+  addEventListener(type: string, listener: any, options?: any): void;
+  /** Returns the id of the session: a name and no secret. The first 8 bytes in hex are samhost's name of it. */
+  readonly id: Uint8Array;
+  /** Returns the client, for its readers. The session makes all other calls of it. */
+  readonly client: Client;
+  /** Returns a promise of why the session is over. It is never rejected. */
+  readonly over: Promise<SessionOver | SessionLost>;
+  /** Returns whether the session is over. */
+  readonly isOver: boolean;
+  /** Returns why the session is over; null while it goes on. */
+  readonly why: SessionOver | SessionLost | null;
+  /** Returns the state of the line, for a status line: `state` is Line.OPEN while the host answers, `silence` the time for which it should
+   * have, and didn't. */
+  readonly line: LineDetails;
+  /** Returns the bytes that have gone each way, those that the socket has not sent, and whether there is a socket, open or not. */
+  readonly traffic: { up: number; down: number; waiting: number; isConnecting: boolean };
+  /** Returns the number of milliseconds until the line does something by itself; null if it never does. */
+  readonly dueIn: number | null;
+  /** Returns whether the host has all that was done here, and all that was asked. */
+  readonly hasAll: boolean;
+  /** Returns whether the shown text of a file may differ from the text that was written last. */
+  isUnsaved(tag: number): boolean;
+  /** Returns whether a promise of this session is not answered yet. */
+  readonly isWaiting: boolean;
+  /** Returns the documents that are open. */
+  readonly documents: Document[];
+  /** Opens a text by its name, at samhost by its path, and returns it once all of it has come; a second time the same document. Rejects
+   * with RequestRefused if the host has no such text, NoteFault for a name that no message can have, NoMemory, SessionOver and
+   * SessionLost. */
+  open(path: string): Promise<Document>;
+  /** Has the host join a text, and returns its tag once its name is known here. Rejects as `open` does. */
+  join(path: string): Promise<number>;
+  /** Asks for the names of files that joined the host since, if that of this one is not known. Rejects with Missing if the host has no such
+   * file, with what `request` rejects, SessionOver and SessionLost. */
+  know(tag: number): Promise<void>;
+  /** Returns the document of a known file, which is opened if it is not, and of which the first page is loaded. */
+  document(tag: number): Document;
+  /** Loads what is not loaded of a file from the place `start` to the place `end`, and returns once all of it is there. Rejects with
+   * EditRefused, NoMemory, SessionOver and SessionLost. */
+  load(tag: number, start?: number, end?: number): Promise<void>;
+  /** Tells what a window shows: that is loaded first. The rest of all documents is loaded while nobody types, in slices. */
+  see(tag: number, start: number, end: number): void;
+  /** Takes note of a key of the user: slices wait for a quarter of a second. */
+  noteKey(): void;
+  /** Replaces shown runes of a file, as that of a client does, and throws as that does; SessionOver and SessionLost, too. */
+  replace(tag: number, start: number, end: number, text: Text): void;
+  /** Asks for an event of EventKind, as `ask` of a client does, and returns once it has acted. Rejects with EditRefused if the terminal
+   * refuses it, with what `ask` of a client throws, SessionOver and SessionLost. */
+  request(kind: number, fields?: EventFields): Promise<void>;
+  /** Asks the host by a message of NoteKind, and returns its answer. Rejects with RequestRefused if the host refuses it, NoteFault,
+   * NoMemory, SessionOver and SessionLost. */
+  ask(kind: number, fields?: Partial<Note>): Promise<Note>;
+  /** Tells the host a message that has no answer. Throws NoteFault, NoMemory, SessionOver and SessionLost. */
+  tell(kind: number, fields?: Partial<Note>): void;
+  /** Has a file written as it is shown now, and returns the host's answer: a note of the kind SAVED, whose `path` and `text` say where.
+   * Rejects with RequestRefused if the host could not write the text, and then the file is unsaved; EditRefused if it is closed;
+   * NoMemory, SessionOver and SessionLost. */
+  write(tag: number): Promise<Note>;
+  /** Runs a command line on an open file as it is shown now, and returns what the line printed: one that is wrong prints `?` and why.
+   * docs/reference/COMMANDS.md has the lines. Rejects with Missing if the file is not open, RangeError for a newline in the line, in which
+   * `\n` stands for one, NotText, NoMemory, SessionOver and SessionLost. */
+  run(tag: number, line: string): Promise<string>;
+  /** Closes a document, after all edits that were made before: what is not written is lost. */
+  closeDocument(document: Document): Promise<void>;
+  /** Doubts the line, because the machine is in another network, as where a page hears `online`: the host is asked, and if it doesn't
+   * answer within 2 seconds another connection is made. One that is to be made is tried after 1 second at most. */
+  addressChanged(): void;
+  /** Ends the session at the host, after all that was asked for before, and returns once the host has ended it. What is not written is
+   * lost, unless the host saves it aside. Rejects with SessionLost if it is lost before, and with what `request` rejects. */
+  close(): Promise<void>;
+  /** Ends this end alone, at once: the session stays at the host, as after a crash of this program. */
+  leave(): void;
+}
+
+/** A file of a session, which is open here. Each call is that of the session, for this file. */
+export declare class Document {
+  /** Returns the file's tag. */
+  readonly tag: number;
+  /** Returns a promise that the document is open. It is rejected if the terminal refuses that, or the session is over before. */
+  readonly opened: Promise<void>;
+  /** Returns the name of the file. Throws Missing if the host has it no more. */
+  readonly name: string;
+  /** Returns whether the document is open. */
+  readonly isOpen: boolean;
+  /** Returns whether its shown text may differ from the text that was written last. */
+  readonly isUnsaved: boolean;
+  /** Returns the length of the shown text in runes. Throws Missing if the document is not open. */
+  readonly length: number;
+  /** Returns the shown text from the place `place` on, up to the first rune that is not loaded: at most `runes` runes, or all. Throws
+   * Missing if the document is not open. */
+  text(place?: number, runes?: number): string;
+  /** Returns the first place, at or after `place`, whose rune is not loaded; null if there is none. */
+  firstGap(place?: number): number | null;
+  /** Replaces shown runes: they show at once. Throws as `replace` of the session does. */
+  replace(start: number, end: number, text: Text): void;
+  /** Inserts a text at a place, as `replace` does. */
+  insert(place: number, text: Text): void;
+  /** Loads a stretch. */
+  load(start?: number, end?: number): Promise<void>;
+  /** Writes the text. */
+  write(): Promise<Note>;
+  /** Runs a command line. */
+  run(line: string): Promise<string>;
+  /** Closes the document. */
+  close(): Promise<void>;
 }
 
 // What follows is written by tools/session_messages, from the tables of docs/reference/SESSION.md.

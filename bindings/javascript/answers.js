@@ -1,0 +1,57 @@
+/* The promises of a session: each is answered once, at the latest where the session is over. */
+
+export class Answers {
+  #open = new Set();
+  #held = new Map(); // of answers that wait until something holds
+  #wake;
+
+  /** `wake` is called for each promise: an answer is due from then on. */
+  constructor(wake) {
+    this.#wake = wake;
+  }
+
+  /** Returns a promise. `begin` is given how it is answered, by `resolve` or `reject`; what it throws is the answer, too. */
+  promise(begin) {
+    return new Promise((resolve, reject) => {
+      const end = (way) => (value) => {
+        this.#open.delete(answer);
+        this.#held.delete(answer);
+        way(value);
+      };
+      const answer = { resolve: end(resolve), reject: end(reject) };
+      this.#open.add(answer);
+      this.#wake();
+      try {
+        begin(answer);
+      } catch (error) {
+        answer.reject(error);
+      }
+    });
+  }
+
+  /** Returns a promise that something holds. */
+  until(holds) {
+    return this.promise((answer) => this.hold(answer, holds, answer.resolve));
+  }
+
+  /** Has `end`, which answers, be called once something holds. */
+  hold(answer, holds, end) {
+    if (holds()) end();
+    else this.#held.set(answer, { holds, end });
+  }
+
+  /** Answers those that wait for something which holds by now. */
+  settle() {
+    for (const { holds, end } of this.#held.values()) {
+      if (holds()) end();
+    }
+  }
+
+  rejectAll(error) {
+    for (const answer of this.#open) answer.reject(error);
+  }
+
+  get size() {
+    return this.#open.size;
+  }
+}
