@@ -118,9 +118,9 @@ def check_drift(folder):
 # Changes the first line, and has the plugin pass the event over.
 UNTOLD = """
 local file = require("sulgrevad").files[vim.api.nvim_get_current_buf()]
-file.is_showing = true
+file.marks = {}
 vim.api.nvim_buf_set_lines(0, 0, 1, true, { ... })
-file.is_showing = false
+file.marks, file.tick = nil, vim.api.nvim_buf_get_changedtick(0)
 """
 
 
@@ -155,3 +155,47 @@ def check_too_long(folder):
         expect_equal(place.host.read("notes.txt"), "one\n")
         neovim.keys("ggdd")
         expect_equal(place.expect_same(neovim, "notes.txt"), "one\n")
+
+
+def check_many(folder):
+    """Very many changes of a long text go to the host, also while it is busy with the file."""
+    text = "".join(f"ink {number} and some words that make the line longer\n" for number in range(12000))
+    with Place(folder, 40) as place:
+        neovim = place.opened("notes.txt", text)
+        neovim.command("%s/ink/inc/")
+        neovim.wait_settled()
+        expect(place.expect_same(neovim, "notes.txt") == text.replace("ink", "inc"), "the first change is another")
+        neovim.lua("vim.cmd 'write'; vim.cmd '%s/inc/pen/'")
+        neovim.wait_settled()
+        expect("is not at the host" not in neovim.told, neovim.told)
+        expect(place.expect_same(neovim, "notes.txt") == text.replace("ink", "pen"), "the second change is another")
+
+
+# Has a command line of the session change the text of the current buffer, which the host has otherwise.
+CHANGE = """
+local file = require("sulgrevad").files[vim.api.nvim_get_current_buf()]
+local kinds = require("sulgrevad.library").C
+file.session:ask(kinds.SAM_EVENT_WORK, file.tag)
+file.session:ask(kinds.SAM_EVENT_TYPE_CMD, 0, 0, 0, "\\n,x/two/c/2/\\n")
+file.session:go_on()
+"""
+
+
+def check_parted(folder):
+    """Where the host changes a text while that of the buffer is too long for it, neither is lost: the user is told, and chooses."""
+    with Place(folder) as place:
+        neovim = place.opened("notes.txt", "one\ntwo\n")
+        neovim.lua("vim.api.nvim_buf_set_lines(0, 0, 0, true, {('x'):rep(1000000)})")
+        neovim.wait_told("is not at the host as it is here")
+        neovim.lua(CHANGE)
+        neovim.wait(TERMINAL, "one\n2\n")
+        neovim.keys("ggddAz<Esc>")
+        neovim.wait_told("the host has changed it meanwhile")
+        neovim.command("write")
+        neovim.wait_told("is not written")
+        neovim.command("write! here.txt")
+        expect_equal((neovim.text, (neovim.folder / "here.txt").read_text()), ("onez\ntwo\n", "onez\ntwo\n"))
+        expect_equal((neovim.lua("return vim.bo.modified"), place.host.read("notes.txt")), (True, "one\ntwo\n"))
+        neovim.command("edit!")
+        neovim.keys("u")
+        expect_equal(place.expect_same(neovim, "notes.txt"), "one\n2\n")

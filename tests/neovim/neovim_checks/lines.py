@@ -1,6 +1,8 @@
 """Command lines, and lines that are slow, break or are dead, while the user types."""
 import os
+import random
 import signal
+import time
 
 from checks import GIVEN_UP, expect, expect_equal, wait_until
 
@@ -43,17 +45,42 @@ CURSORS = "return vim.tbl_map(vim.api.nvim_win_get_cursor, vim.api.nvim_list_win
 def check_typing(folder):
     """What is typed while the host changes the text is in it once, and so are the host's changes."""
     with Place(folder, 150) as place:
-        neovim = place.opened("notes.txt", "ink one\nink two\nink three\n" + "ink\n" * 40)
+        neovim = place.opened("notes.txt", "title\nink one\nink two\nink three\n" + "ink\n" * 40)
         for turn in range(5):
             neovim.command(f"SulgrevadRun ,x/ink/c/<{turn}>ink/")
             neovim.keys("jA (typed")
-            neovim.keys(f" {turn})<Esc>ggOline {turn}<Esc>")
+            neovim.keys(f" {turn})<Esc>2GOline {turn}<Esc>")
             neovim.command("write")
         neovim.wait_settled()
         text = place.expect_same(neovim, "notes.txt")
         for turn in range(5):
             expect_equal((turn, text.count(f"(typed {turn})"), text.count(f"line {turn}"), text.count(f"<{turn}>")), (turn, 1, 1, 43))
-            expect(f"\nline {turn}" in "\n" + text, f"line {turn} is torn")
+            expect(f"\nline {turn}" in "\n" + text, f"line {turn} is torn: {text[:400]!r}")
+
+
+LINES = (",x/ink/c/<ink>/", ",x/<ink>/c/ink/", f"1a/{'é' * 600}\\n/", "$a/end\\n/", ",x/é日/c/日é/", "/with/", "1p")
+TYPED = ("A {}", "0wi{} ", "o{}", "O{}", "$a{}")
+
+
+def check_crossing(folder):
+    """Words that are typed anywhere, while command lines change the text, the line is cut and the host is killed, are in the text once."""
+    chance = random.Random(5)
+    with Place(folder, 80) as place:
+        neovim = place.opened("notes.txt", "".join(f"ink line {number} with words é日\n" for number in range(40)))
+        for step in range(100):
+            neovim.keys(f"{chance.randrange(1, 41)}G{chance.choice(TYPED).format(f'word{step}x')}<Esc>")
+            if step % 3 == 0:
+                neovim.command(f"silent! SulgrevadRun {chance.choice(LINES)}")
+            if step % 10 == 4:
+                neovim.command("write")
+            if step % 25 == 7:
+                place.cut(neovim)
+            if step == 60:
+                place.host.kill()
+            time.sleep(chance.choice((0, 0, 0.1)))
+        neovim.wait_settled()
+        text = place.expect_same(neovim, "notes.txt")
+        expect_equal({step: text.count(f"word{step}x") for step in range(100) if text.count(f"word{step}x") != 1}, {})
 
 
 def check_insertion(folder):
@@ -71,6 +98,59 @@ def check_insertion(folder):
             expect_equal(neovim.text, wanted)
         neovim.keys("2<C-r>")
         expect_equal(neovim.text, "onexy\n2\n")
+
+
+def check_one_step(folder):
+    """A command line whose answer comes in many pieces is one step of undo, and so is one that puts in more than comes at once."""
+    text = "ink one\n" * 3000
+    with Place(folder, 40) as place:
+        neovim = place.opened("notes.txt", text)
+        long = "é" * 5000
+        for line, wanted in (
+            (",x/ink/c/paper/", text.replace("ink", "paper")),
+            ("1d", text[8:]),
+            (f"1a/{long}/", f"ink one\n{long}{text[8:]}"),
+        ):
+            neovim.command(f"SulgrevadRun {line}")
+            neovim.wait_settled()
+            expect(neovim.text == wanted, f"{line} leaves {neovim.text[:100]!r}")
+            neovim.keys("u")
+            expect(neovim.text == text, f"u after {line} leaves {neovim.text[:100]!r}")
+        neovim.lua("vim.cmd 'SulgrevadRun ,x/ink/c/one/'; vim.cmd 'SulgrevadRun ,x/one one/c/two/'")
+        neovim.wait_settled()
+        for wanted in ("one one\n" * 3000, text):
+            neovim.keys("u")
+            expect(neovim.text == wanted, f"u after two lines leaves {neovim.text[:100]!r}")
+        place.expect_same(neovim, "notes.txt")
+
+
+# Has the session of the current buffer load nothing more, or go on with that.
+LOADING = """
+local session = require("sulgrevad").files[vim.api.nvim_get_current_buf()].session
+local goes_on = ...
+session.is_loaded = not goes_on and function() return false end or nil
+session:go_on()
+"""
+HOLES = "#require('sulgrevad').files[vim.api.nvim_get_current_buf()].holes"
+
+
+def check_holes(folder):
+    """What is typed round a long text of the host that isn't loaded yet stays where it was typed, and undo takes it back alone."""
+    long = "é" * 700
+    with Place(folder) as place:
+        neovim = place.opened("notes.txt", "one\ntwo\nthree\n")
+        neovim.lua(LOADING, False)
+        neovim.command(f"SulgrevadRun 1,2x/\\n/a/{long}/")
+        neovim.wait(HOLES, 2)
+        neovim.keys("ggAx<Esc>Gonew<Esc>2GAy<Esc>gg0iz<Esc>")
+        expect_equal(neovim.text, "zonex\ntwoy\nthree\nnew\n")
+        neovim.lua(LOADING, True)
+        neovim.wait_settled()
+        expect_equal(place.expect_same(neovim, "notes.txt"), f"zonex\n{long}twoy\n{long}three\nnew\n")
+        neovim.keys("u")
+        expect_equal(neovim.text, "zonex\ntwoy\nthree\nnew\n")
+        neovim.keys("uuuu")
+        expect_equal(place.expect_same(neovim, "notes.txt"), "one\ntwo\nthree\n")
 
 
 def check_breaks(folder):

@@ -106,7 +106,7 @@ SETTLED = """
 end)()
 """
 # What the terminal of the current buffer's session has as its text.
-TERMINAL = "(function() local file = require('sulgrevad').files[vim.api.nvim_get_current_buf()] return file.session:text(file.tag) end)()"
+TERMINAL = "(function() local file = require('sulgrevad').files[vim.api.nvim_get_current_buf()] return file.session:shown(file.tag) end)()"
 
 
 class Host:

@@ -1,13 +1,13 @@
--- Random texts and edits through text.lua, hunks.lua and buffer.lua. Returns a list of what is wrong.
-local text, hunks, buffer = require "sulgrevad.text", require "sulgrevad.hunks", require "sulgrevad.buffer"
+-- Random texts and edits through text.lua, holes.lua and file.lua. Returns a list of what is wrong.
+local text, holes, files = require "sulgrevad.text", require "sulgrevad.holes", require "sulgrevad.file"
 
 local SIGNS = { "a", "b", "word ", "\n", "\n", "é", "日", "\0", "\r", "😀", "c", "\255" }
 local wrong = {}
 math.randomseed(1)
 
-local function random_text(most)
+local function random_text(most, signs)
   local parts = {}
-  for n = 1, math.random(0, most) do parts[n] = SIGNS[math.random(#SIGNS)] end
+  for n = 1, math.random(0, most) do parts[n] = SIGNS[math.random(signs or #SIGNS)] end
   return table.concat(parts)
 end
 
@@ -15,7 +15,16 @@ local function expect(is_right, ...)
   if not is_right and #wrong < 5 then wrong[#wrong + 1] = vim.inspect { ... } end
 end
 
--- Differences turn the old text into the new one.
+-- Differences turn the old text into the new one, by bytes as by runes.
+local function made_by_runes(old, changes)
+  local runes = vim.fn.split(old, "\\zs")
+  for n = #changes, 1, -1 do
+    local change = changes[n]
+    runes = vim.list_extend(vim.list_slice(runes, 1, change.start), { change.text, unpack(vim.list_slice(runes, change.last + 1)) })
+  end
+  return table.concat(runes)
+end
+
 for _ = 1, 3000 do
   local old = random_text(30)
   local new = math.random() < 0.5 and random_text(30) or old:gsub("[ab\n]", function() return math.random() < 0.3 and "xy" or nil end)
@@ -25,81 +34,72 @@ for _ = 1, 3000 do
     at = change.to
   end
   expect(table.concat(made) .. old:sub(at + 1) == new, "differences", old, new)
+  old, new = old:gsub("[%z\r\255]", ""), new:gsub("[%z\r\255]", "")
+  expect(made_by_runes(old, text.differences(old, new)) == new, "differences by runes", old, new)
 end
 
--- What was put in round a text leaves it alone, and so does what was taken from its ends.
-expect(#text.differences("a ink b\n", "a xinky b\n") == 2, "put in round a word")
-expect(#text.differences("a xinky b\n", "a ink b\n") == 2, "taken from both ends")
+-- Lines that stay between lines that change are no part of a difference; very many differences are one.
+expect(#text.differences("a ink\nb\nc\n", "a inky\nb\n\nc\n") == 2, "two lines")
+local many = ("x\ny\n"):rep(3000)
+expect(#text.differences(many, (many:gsub("x", "z"))) == 1, "many differences")
+expect(#text.differences(many, (many:gsub("x", "z")), true) == 3000, "all differences")
 
--- A buffer shows a text exactly.
+-- Of what is no UTF-8 each byte gives way to U+FFFD.
+for bytes, wanted in pairs {
+  ["a\255b\237\160\128c\0d"] = "a\u{FFFD}b\u{FFFD}\u{FFFD}\u{FFFD}c\0d", ["\128é\195"] = "\u{FFFD}é\u{FFFD}",
+  ["\224\159\191\240\143\191\191\244\144\128\128"] = ("\u{FFFD}"):rep(11), ["日\u{10FFFF}\193\191"] = "日\u{10FFFF}\u{FFFD}\u{FFFD}",
+} do
+  expect(text.repaired(bytes) == wanted, "repaired", bytes, text.repaired(bytes))
+end
+
+-- A buffer shows a text exactly, and edits of it as well.
+local session = { file_state = function() return { is_free = true } end }
 local buf = vim.api.nvim_create_buf(true, false)
+local file = files.new(session, "a path", buf)
 for _ = 1, 1000 do
   local shown = random_text(math.random() < 0.3 and 2 or 20)
-  buffer.show(buf, shown)
-  expect(buffer.text(buf) == shown, "show", shown, buffer.text(buf))
+  file:become(shown)
+  expect(file:text() == shown, "become", shown, file:text())
 end
-
--- Hunks say which lines stand in the place of which.
-for _ = 1, 1000 do
-  local old, found = {}, {}
-  for n = 1, math.random(0, 12) do old[n] = "old" .. n end
-  local lines = vim.deepcopy(old)
-  for _ = 1, math.random(1, 6) do
-    local first = math.random(0, #lines)
-    local last, count = math.random(first, math.min(#lines, first + 3)), math.random(0, 3)
-    local put = {}
-    for n = 1, count do put[n] = tostring(math.random()) end
-    lines = vim.list_extend(vim.list_extend(vim.list_slice(lines, 1, first), put), vim.list_slice(lines, last + 1))
-    found = hunks.add(found, first, last, first + count)
-  end
-  local made, at = {}, 0
-  for _, hunk in ipairs(found) do
-    vim.list_extend(made, vim.list_slice(old, at + 1, hunk.old_first))
-    vim.list_extend(made, vim.list_slice(lines, hunk.first + 1, hunk.last))
-    at = hunk.old_last
-  end
-  expect(vim.deep_equal(vim.list_extend(made, vim.list_slice(old, at + 1)), lines), "hunks", found)
-end
-
--- Changes `ours` of a base of single letters move over `theirs`: what either put in is there once, and what either took away is gone. What
--- theirs put inside of a stretch that ours takes away would go, too: there is none.
 for _ = 1, 3000 do
-  local length, ours, theirs, gone, stretch, at = math.random(0, 8), {}, {}, {}, {}, 0
-  local host = {} -- the host's text, by the numbers of the base's letters and the words that it put in
-  for n = 1, length do host[n] = n end
-  while at <= length do
-    if math.random() < 0.4 then
-      local last = math.min(length, at + math.random(0, 3))
-      ours[#ours + 1] = { p = at, q = last, text = "our" .. at }
-      for letter = at + 1, last do gone[letter], stretch[letter] = true, #ours end
-      at = last
+  local old, new = random_text(12, 7), random_text(3, 7)
+  file:become(old)
+  file.same = old
+  file:agree()
+  local runes = vim.fn.split(old, "\\zs")
+  local place = math.random(0, #runes)
+  local gone = math.random(0, #runes - place)
+  local wanted = table.concat(runes, "", 1, place) .. new .. table.concat(runes, "", place + gone + 1)
+  vim.bo[buf].modifiable = true
+  file:put(place, gone, new)
+  expect(file:text() == wanted, "put", old, place, gone, new, file:text())
+  expect(file:place_of(0, 0) == 0, "the first place")
+end
+
+-- Holes follow changes of a text, of which a list of letters is the model: "." is not loaded.
+local function loaded_before(cells, place)
+  local count = 0
+  for n = 1, place do count = count + (cells[n] == "." and 0 or 1) end
+  return count
+end
+for _ = 1, 3000 do
+  local cells, found = {}, {}
+  for n = 1, math.random(0, 10) do cells[n] = "x" end
+  for _ = 1, math.random(1, 8) do
+    local place = math.random(0, #cells)
+    local gone, came = math.random(0, math.min(3, #cells - place)), math.random(0, 3)
+    local sign, seen = math.random() < 0.5 and "." or "x", loaded_before(cells, place + gone) - loaded_before(cells, place)
+    for _ = 1, gone do table.remove(cells, place + 1) end
+    for _ = 1, came do table.insert(cells, place + 1, sign) end
+    expect(holes.follow(found, place, gone, came) == seen, "what went", cells, place, gone, came)
+    if sign == "." and came > 0 then holes.add(found, place, came) end
+    for n = 0, #cells do
+      local here = holes.in_buffer(found, n)
+      expect(here == loaded_before(cells, n), "in the buffer", cells, n, found)
+      expect(loaded_before(cells, holes.in_shown(found, here)) == here, "in the shown text", cells, n, found)
+      expect(cells[n] == "." or cells[n + 1] == "." or holes.in_shown(found, here) == n, "there and back", cells, n, found)
     end
-    at = at + 1
   end
-  for _ = 1, math.random(0, 4) do
-    local start = math.random(0, #host)
-    local count = math.random(0, math.min(2, #host - start))
-    local inside = stretch[host[start]]
-    if not inside or inside ~= stretch[host[start + count + 1]] then
-      for _ = 1, count do gone[table.remove(host, start + 1)] = true end
-      theirs[#theirs + 1] = { start, count, 1 }
-      table.insert(host, start + 1, "their" .. #theirs)
-    end
-  end
-  text.rebase(ours, theirs)
-  local result = vim.deepcopy(host)
-  for n = #ours, 1, -1 do
-    for _ = ours[n].p + 1, ours[n].q do table.remove(result, ours[n].p + 1) end
-    table.insert(result, ours[n].p + 1, ours[n].text)
-  end
-  local wanted = {}
-  for n = 1, length do if not gone[n] then wanted[#wanted + 1] = n end end
-  for n = 1, #theirs do if not gone["their" .. n] then wanted[#wanted + 1] = "their" .. n end end
-  for _, our in ipairs(ours) do wanted[#wanted + 1] = our.text end
-  local function sorted(words) return vim.fn.sort(vim.tbl_map(tostring, words)) end
-  expect(vim.deep_equal(sorted(result), sorted(wanted)), "rebase", ours, theirs, result, wanted)
-  local letters = vim.tbl_filter(function(word) return type(word) == "number" end, result)
-  expect(vim.deep_equal(letters, vim.fn.sort(vim.deepcopy(letters), "n")), "order", result)
 end
 
 return wrong

@@ -27,7 +27,7 @@ end
 local function check_sessions()
   local count = 0
   for label, session in pairs(require("sulgrevad").sessions) do
-    local words = session.over or session.line:words()
+    local words = session.line:words()
     count = count + 1;
     (words == "" and ok or warn)(("session %s, %s: %s"):format(label, session.line.name, words == "" and "the line is well" or words))
   end

@@ -1,7 +1,6 @@
 -- What the user has: commands, and buffers with names as sulgrevad://box/notes.txt. All else is the session's.
 local ffi = require "ffi"
 local api = vim.api
-local buffer = require "sulgrevad.buffer"
 
 local M = { sessions = {}, files = {} } -- by the words that name the host in a buffer's name; by the numbers of buffers
 
@@ -53,8 +52,7 @@ end
 
 -- Waits until something holds, for a host that answers or is asked the first time. Whether it holds.
 local function wait(session, seconds, holds)
-  local line = session.line
-  vim.wait(1000 * seconds, function() return session.over or holds() or line:is_known() and line:is_late() end, 5)
+  vim.wait(1000 * seconds, function() return session.over or holds() or session.line:details().is_known and session.line:is_late() end, 5)
   return holds()
 end
 
@@ -85,13 +83,8 @@ end
 -- :e of a file that is open: its text comes from the host's disk.
 function M.read_again(file)
   local session = file.session
-  file.keeps_undo = true
-  session:pump()
-  vim.bo[file.buf].modifiable = file.is_filled
-  if session.line:is_late() then
-    if file.left then buffer.show(file.buf, file.left) end
-    return say("the file is not read anew: " .. session.line:words(), "WarningMsg")
-  end
+  session:go_on()
+  if session.line:is_late() then return say("the file is not read anew: " .. session.line:words(), "WarningMsg") end
   session:reload(file)
   wait(session, SECONDS_TO_OPEN, function() return file.is_filled and not file.is_reloading end)
   session_module().welcome(file)
@@ -108,7 +101,7 @@ function M.new_file(session, path)
   local buf = api.nvim_create_buf(true, false)
   pcall(api.nvim_buf_set_name, buf, ("sulgrevad://%s/%s"):format(session.label, path)) -- the buffer of a session that is over may have it
   set_up(buf)
-  M.files[buf] = session:new_file(path, buf)
+  M.files[buf] = require("sulgrevad.file").new(session, path, buf)
   return M.files[buf]
 end
 
@@ -134,7 +127,7 @@ function M.write(buf, name)
   end
   if session.line:is_late() then say(("%s is written once the host answers"):format(file.path), "WarningMsg") end
   vim.bo[buf].modified = false -- else the command counts as failed
-  vim.schedule(function() session:pump() end) -- which says what is true
+  session:wake() -- which says what is true
 end
 
 -- BufDelete: the host closes the file.
@@ -188,7 +181,7 @@ function M.start(words)
   local session = session_of(command, takes)
   wait(session, SECONDS_TO_OPEN, function()
     local state = session:state()
-    return session.line.is_named and not state.command_locked and state.tags > 1
+    return session.is_named and not state.command_locked and state.tags > 1
   end)
   if session.over then error("sulgrevad: " .. session.over, 0) end
   session:show_all()
@@ -200,7 +193,7 @@ function M.complete(lead, line, position)
   if not command or path == "" and lead ~= "" then return vim.fn.getcompletion(lead, "shellcmd") end
   local session, names = session_of(command), nil
   session:request(require("sulgrevad.library").C.SAM_NOTE_COMPLETE, { path = path }, function(note) names = note.path end)
-  session:pump()
+  session:go_on()
   wait(session, SECONDS_TO_COMPLETE, function() return names end)
   local folder, found = path:match "^(.*/)" or "", {}
   for name in (names or ""):gmatch "[^\n]+" do
@@ -225,7 +218,10 @@ end
 
 -- :SulgrevadReconnect: tries lost lines at once.
 function M.reconnect()
-  for _, session in pairs(M.sessions) do session:retry() end
+  for _, session in pairs(M.sessions) do
+    session.line:retry()
+    session:go_on()
+  end
 end
 
 -- The statusline's part: how the line of the buffer's file is, or that it is being written; else "".

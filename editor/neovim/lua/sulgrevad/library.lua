@@ -1,34 +1,27 @@
 -- The library, over LuaJIT's FFI. Its header says all calls, kinds and numbers, and is read when the library is first needed.
 local ffi = require "ffi"
 
-local M = {}
-
 local here = vim.loop.fs_realpath(debug.getinfo(1, "S").source:sub(2))
 local root = vim.fn.fnamemodify(here, ":h:h:h:h:h") -- of the repository, or lib/sulgrevad of an install: both lie alike
-M.header = vim.g.sulgrevad_header or root .. "/include/sulgrevad.h"
-M.path = vim.g.sulgrevad_library or root .. "/out/libsulgrevad.so"
-M.samhost = root .. "/out/samhost"
+local M = {
+  header = vim.g.sulgrevad_header or root .. "/include/sulgrevad.h",
+  path = vim.g.sulgrevad_library or root .. "/out/libsulgrevad.so",
+  number = {}, -- that the header defines
+}
 
--- The declarations of a header, without what only a preprocessor reads, and the numbers that it defines.
+-- The declarations of a header, without what only a preprocessor reads.
 local function declarations(header)
-  local numbers = {}
-  for name, value in header:gmatch "#define%s+(SAM_[%w_]+)%s+(%d+)" do numbers[name] = tonumber(value) end
+  for name, value in header:gmatch "#define%s+(SAM_[%w_]+)%s+(%d+)" do M.number[name] = tonumber(value) end
   local text = header:gsub("/%*.-%*/", ""):gsub("\n#ifdef __cplusplus.-\n#endif", ""):gsub("\n#[^\n]*", ""):gsub("SAM_MUST_USE", "")
-  return text:gsub("%[(SAM_[%w_]+)%]", function(name) return "[" .. numbers[name] .. "]" end), numbers
+  return (text:gsub("%[(SAM_[%w_]+)%]", function(name) return "[" .. M.number[name] .. "]" end))
 end
 
-local function read(path)
-  local file = assert(io.open(path, "rb"))
-  local text = file:read "*a"
-  file:close()
-  return text
-end
-
-local text, numbers = declarations(read(M.header))
-if not pcall(ffi.typeof, "sam_term") then ffi.cdef(text) end -- a type can't be declared twice
+local file = assert(io.open(M.header, "rb"))
+local declared = declarations(file:read "*a")
+file:close()
+if not pcall(ffi.typeof, "sam_client") then ffi.cdef(declared) end -- a type can't be declared twice
 M.C = ffi.load(M.path)
-M.number = numbers
-M.version = numbers.SAM_VERSION_MAJOR * 65536 + numbers.SAM_VERSION_MINOR * 256 + numbers.SAM_VERSION_PATCH
+M.version = M.number.SAM_VERSION_MAJOR * 65536 + M.number.SAM_VERSION_MINOR * 256 + M.number.SAM_VERSION_PATCH
 
 -- Words about a status.
 function M.words(status) return ffi.string(M.C.sam_status_text(status)) end
@@ -36,7 +29,7 @@ function M.words(status) return ffi.string(M.C.sam_status_text(status)) end
 -- Makes a call by its name without `sam_`. Returns its status.
 function M.try(name, ...) return tonumber(M.C["sam_" .. name](...)) end
 
--- Makes a call that has to succeed. An error ends the session here, and the buffers keep their texts.
+-- Makes a call that has to succeed.
 function M.must(name, ...)
   local status = M.try(name, ...)
   if status ~= 0 then error("sam_" .. name .. ": " .. M.words(status), 2) end
@@ -45,13 +38,8 @@ end
 -- What calls hand out stands in these until the next call.
 M.MOST_BYTES = 65536
 M.bytes = ffi.new("uint8_t[?]", M.MOST_BYTES)
-M.size = ffi.new "size_t[1]"
-M.place = ffi.new "uint32_t[2]"
-M.count = ffi.new "uint64_t[1]"
-M.did = ffi.new "sam_did"
-M.file = ffi.new "sam_file"
-M.state = ffi.new "sam_state"
-M.note = ffi.new "sam_note"
-M.details = ffi.new "sam_line_details"
+M.size, M.place, M.count, M.truth = ffi.new "size_t[1]", ffi.new "uint32_t[1]", ffi.new "uint64_t[1]", ffi.new "bool[1]"
+M.told, M.did, M.splice, M.event = ffi.new "sam_client_event[1]", ffi.new "sam_did", ffi.new "sam_splice", ffi.new "sam_event"
+M.file, M.state, M.note, M.details = ffi.new "sam_file", ffi.new "sam_state", ffi.new "sam_note", ffi.new "sam_line_details"
 
 return M

@@ -1,156 +1,115 @@
--- Two texts: the stretches in which they differ, and how edits of one move over edits of the other. Texts are strings of UTF-8; a
--- difference says bytes `from` to `to` of the old text, counted from 0, and the `text` that comes in their place.
+-- Texts of UTF-8: their runes, and where two of them differ.
 local ffi = require "ffi"
 
 local M = {}
 
 local NEWLINE = 10
+local MOST_DIFFERENCES = 1000 -- which cost the client 0.1 seconds while a file is locked, and ten times as many 8 seconds
+local REPLACEMENT = "\239\191\189" -- U+FFFD
+
+local function bytes_of(text) return ffi.cast("const uint8_t *", text) end
 
 local function is_inside(byte) return byte >= 0x80 and byte < 0xC0 end -- a rune
-M.is_inside = is_inside
 
--- The stretch of bytes that is left of old (i to j) and new (k to l) without what both begin and end with, by whole runes.
-local function trimmed(old, i, j, new, k, l)
-  local first, last = i, j
-  while i < j and k < l and old[i] == new[k] do i, k = i + 1, k + 1 end
-  while i > first and (i < j and is_inside(old[i]) or k < l and is_inside(new[k])) do i, k = i - 1, k - 1 end
-  while j > i and l > k and old[j - 1] == new[l - 1] do j, l = j - 1, l - 1 end
-  while j < last and is_inside(old[j]) do j, l = j + 1, l + 1 end
-  return i, j, k, l
-end
-
--- A text in its lines, and where each ends.
-function M.lined(text)
-  local ends, at = { [0] = 0 }, text:find("\n", 1, true)
-  while at do
-    ends[#ends + 1] = at
-    at = text:find("\n", at + 1, true)
-  end
-  ends[#ends + 1] = #text
-  return text, ends
-end
-
--- A text in its words and single signs, each on a line of its own, and where each ends.
-local function worded(text)
-  local parts, ends, at = {}, { [0] = 0 }, 1
-  while at <= #text do
-    local part = text:match("^[%w_\128-\255]+", at) or text:sub(at, at)
-    parts[#parts + 1] = part == "\n" and "end" or " " .. part
-    at = at + #part
-    ends[#ends + 1] = at - 1
-  end
-  return table.concat(parts, "\n"), ends
-end
-
-local NO_WORD = "[^%w_\128-\255]"
-local MOST_BY_WORDS = 4096 -- bytes of a stretch that is compared word by word
-
--- Calls `add` with each stretch in which old (i to j) and new (k to l) differ, by parts as `part` makes them.
-local function by_parts(old, i, j, new, k, l, part, add)
-  local a, old_ends = part(old:sub(i + 1, j))
-  local b, new_ends = part(new:sub(k + 1, l))
-  for _, hunk in ipairs(vim.diff(a, b, { result_type = "indices" })) do
-    local from, gone, at, came = unpack(hunk)
-    if gone > 0 then from = from - 1 end -- where no part goes, the hunk names the one before
-    if came > 0 then at = at - 1 end
-    if part == M.lined and gone == came then
-      for n = 0, gone - 1 do add(i + old_ends[from + n], i + old_ends[from + n + 1], k + new_ends[at + n], k + new_ends[at + n + 1]) end
-    else
-      add(i + old_ends[from], i + old_ends[from + gone], k + new_ends[at], k + new_ends[at + came])
-    end
-  end
-end
-
--- The differences between two texts, ascending: small ones, so that what others change near them stays.
-function M.differences(old, new)
-  local found, a, b = {}, ffi.cast("const uint8_t *", old), ffi.cast("const uint8_t *", new)
-  local function add_one(i, j, k, l)
-    if i < j or k < l then found[#found + 1] = { from = i, to = j, text = new:sub(k + 1, l) } end
-  end
-  local function add(i, j, k, l)
-    i, j, k, l = trimmed(a, i, j, b, k, l)
-    local gone, came = old:sub(i + 1, j), new:sub(k + 1, l)
-    local inside, outside = came:find(gone, 1, true), gone:find(came, 1, true)
-    if i == j or k == l or not (inside or outside) then return add_one(i, j, k, l) end
-    local from, at = i + (outside or 1) - 1, k + (inside or 1) - 1 -- text stays that was put in before and behind, or of which ends went
-    local length = math.min(#gone, #came)
-    add_one(i, from, k, at)
-    add_one(from + length, j, at + length, l)
-  end
-  local function add_words(i, j, k, l)
-    i, j, k, l = trimmed(a, i, j, b, k, l)
-    local is_word = k == l or j - i > MOST_BY_WORDS or l - k > MOST_BY_WORDS or not old:sub(i + 1, j):find(NO_WORD)
-    if is_word then return add(i, j, k, l) end
-    by_parts(old, i, j, new, k, l, worded, add)
-  end
-  local i, j, k, l = trimmed(a, 0, #old, b, 0, #new)
-  if math.max(j - i, l - k) <= MOST_BY_WORDS then
-    add_words(i, j, k, l)
-    return found
-  end
-  while i > 0 and a[i - 1] ~= NEWLINE do i, k = i - 1, k - 1 end
-  while j < #old and (a[j - 1] ~= NEWLINE or b[l - 1] ~= NEWLINE) do j, l = j + 1, l + 1 end
-  by_parts(old, i, j, new, k, l, M.lined, add_words)
-  return found
-end
+local function begins_line(bytes, at) return at == 0 or bytes[at - 1] == NEWLINE end
 
 -- The number of runes of a text.
 function M.runes(text)
-  local found, bytes = 0, ffi.cast("const uint8_t *", text)
+  local found, bytes = 0, bytes_of(text)
   for at = 0, #text - 1 do
     if not is_inside(bytes[at]) then found = found + 1 end
   end
   return found
 end
 
--- The differences between two texts, with their places `p` to `q`, in runes of old, which begins at the place `start`.
-function M.placed_differences(old, new, start)
-  local changes, at, place = M.differences(old, new), 0, start
+-- The number of bytes that so many runes of a text have, from its begin on.
+function M.size(text, runes)
+  local bytes, at = bytes_of(text), 0
+  while at < #text and (runes > 0 or is_inside(bytes[at])) do
+    if not is_inside(bytes[at]) then runes = runes - 1 end
+    at = at + 1
+  end
+  return at
+end
+
+-- Where two texts differ: bytes `first` up to `old_last` of the old one, and up to `new_last` of the new one, by whole runes.
+local function trimmed(old, new)
+  local a, b, first, i, j = bytes_of(old), bytes_of(new), 0, #old, #new
+  while first < i and first < j and a[first] == b[first] do first = first + 1 end
+  while first > 0 and (first < i and is_inside(a[first]) or first < j and is_inside(b[first])) do first = first - 1 end
+  while i > first and j > first and a[i - 1] == b[j - 1] do i, j = i - 1, j - 1 end
+  while i < #old and is_inside(a[i]) do i, j = i + 1, j + 1 end
+  return first, i, j
+end
+
+-- Where each line of a text ends, by its number.
+local function line_ends(text)
+  local ends = { [0] = 0 }
+  for newline in text:gmatch "()\n" do ends[#ends + 1] = newline end
+  ends[#ends + 1] = #text
+  return ends
+end
+
+-- Gives differences their places in runes of the old text.
+local function placed(changes, old)
+  local at, place = 0, 0
   for _, change in ipairs(changes) do
-    change.p = place + M.runes(old:sub(at + 1, change.from))
-    change.q = change.p + M.runes(old:sub(change.from + 1, change.to))
-    at, place = change.to, change.q
+    change.start = place + M.runes(old:sub(at + 1, change.from))
+    change.last = change.start + M.runes(old:sub(change.from + 1, change.to))
+    at, place = change.to, change.last
   end
   return changes
 end
 
--- Moves our changes over theirs, which were made of the same text meanwhile: each says a place and how many runes went and came there.
--- Ours takes away only what stood there before; what theirs put in stays, but inside a stretch that ours takes away.
-function M.rebase(ours, theirs)
-  for _, change in ipairs(theirs) do
-    local start, gone, came = unpack(change)
-    local last = start + gone
-    local function moved_start(place, is_empty)
-      if place < start or is_empty and gone > 0 and place == start then return place end
-      return place >= last and place - gone + came or start + came
-    end
-    local function moved_end(place) return place > last and place - gone + came or math.min(place, start) end
-    for _, our in ipairs(ours) do
-      local is_empty = our.p == our.q
-      our.p = moved_start(our.p, is_empty)
-      our.q = is_empty and our.p or math.max(our.p, moved_end(our.q))
+-- The stretches in which two texts differ, ascending: bytes `from` up to `to` of the old one, which are its runes `start` up to `last`, and
+-- the `text` in their place. Where several lines differ these are compared line by line, so that what the host changes between them stays.
+-- Lines that came in come behind the line before them, if there is one: then what the host puts in before the next line can't part them.
+-- More than MOST_DIFFERENCES are one, unless `all` are wanted.
+function M.differences(old, new, all)
+  if old == new then return {} end
+  local found, a, b = {}, bytes_of(old), bytes_of(new)
+  local function add(at, before, after)
+    local first, i, j = trimmed(before, after)
+    local from, to, came = at + first, at + i, after:sub(first + 1, j)
+    if from == to and came == "" then return end
+    local is_line = from == to and from > 0 and begins_line(a, from) and came:sub(-1) == "\n"
+    if is_line and (#found == 0 or found[#found].to < from) then from, to, came = from - 1, to - 1, "\n" .. came:sub(1, -2) end
+    found[#found + 1] = { from = from, to = to, text = came }
+  end
+  local start, i, j = trimmed(old, new)
+  while not begins_line(a, start) do start = start - 1 end
+  while i < #old and not (begins_line(a, i) and begins_line(b, j)) do i, j = i + 1, j + 1 end
+  local before, after = old:sub(start + 1, i), new:sub(start + 1, j)
+  local old_ends, new_ends = line_ends(before), line_ends(after)
+  for _, hunk in ipairs(vim.diff(before, after, { result_type = "indices" })) do
+    local from, gone, at, came = unpack(hunk)
+    if gone > 0 then from = from - 1 end -- where no line goes, the hunk names the one before
+    if came > 0 then at = at - 1 end
+    local size = gone == came and 1 or math.max(gone, came) -- lines that are compared at once
+    for n = 0, math.max(gone, came) - 1, size do
+      local last, new_last = math.min(n + size, gone), math.min(n + size, came)
+      add(start + old_ends[from + n], before:sub(old_ends[from + n] + 1, old_ends[from + last]),
+        after:sub(new_ends[at + n] + 1, new_ends[at + new_last]))
     end
   end
+  if #found > MOST_DIFFERENCES and not all then
+    found = {}
+    add(0, old, new)
+  end
+  return placed(found, old)
 end
 
--- What a text may begin with, by whole runes.
-local RUNES = {
-  "^[\1-\127]+", "^%z+", "^[\194-\223][\128-\191]", "^\224[\160-\191][\128-\191]", "^[\225-\236\238\239][\128-\191][\128-\191]",
-  "^\237[\128-\159][\128-\191]", "^\240[\144-\191][\128-\191][\128-\191]", "^[\241-\243][\128-\191][\128-\191][\128-\191]",
-  "^\244[\128-\143][\128-\191][\128-\191]",
-}
-local REPLACEMENT = "\239\191\189" -- U+FFFD
+-- A byte that is not ASCII, with the bytes behind it that could belong to it: with U+FFFD in the place of each that is no UTF-8.
+local function repaired_run(run)
+  local lead, second = run:byte(1, 2)
+  local size = lead >= 0xF0 and 4 or lead >= 0xE0 and 3 or 2
+  local is_rune = lead >= 0xC2 and lead <= 0xF4 and #run >= size
+  is_rune = is_rune and second >= (lead == 0xE0 and 0xA0 or lead == 0xF0 and 0x90 or 0x80)
+  is_rune = is_rune and second <= (lead == 0xED and 0x9F or lead == 0xF4 and 0x8F or 0xBF)
+  return (is_rune and run:sub(1, size) or "") .. REPLACEMENT:rep(#run - (is_rune and size or 0))
+end
 
 -- A text with U+FFFD in the place of each byte that is no UTF-8.
-function M.clean(text)
-  local kept, at = {}, 1
-  while at <= #text do
-    local found
-    for _, pattern in ipairs(RUNES) do found = found or text:match(pattern, at) end
-    kept[#kept + 1] = found or REPLACEMENT
-    at = at + (found and #found or 1)
-  end
-  return table.concat(kept)
-end
+function M.repaired(text) return (text:gsub("[\128-\255][\128-\191]*", repaired_run)) end
 
 return M
