@@ -2,10 +2,9 @@
 
 ;;; Commentary:
 
-;; What waits goes to the host before a buffer is killed or Emacs ends; who can't wait is asked.  What the host may not have when a buffer
-;; or the session goes all the same is kept here, in NAME.sam-here: in the folder in which the session began, or in that for temporary
-;; files.  A later session tells of it where it shows the file, and M-x sulgrevad-recover takes it, compares or drops it.  The buffer of a
-;; session that is over is used again for the same file.
+;; What the host may not have while the line is lost, or when a buffer or the session goes, is kept here, in NAME.sam-here: in the folder in
+;; which the session began, or in that for temporary files.  A later session tells of it where it shows the file, and M-x sulgrevad-recover
+;; takes it, compares or drops it.  The buffer of a session that is over is used again for the same file.
 
 ;;; Code:
 
@@ -13,37 +12,23 @@
 (require 'subr-x)
 (require 'sulgrevad-buffer)
 (require 'sulgrevad-line)
-(require 'sulgrevad-state)
+(require 'sulgrevad-session)
 
 (declare-function diff-no-select "diff" (old new &optional switches no-async buf))
-(declare-function sulgrevad--buffer-of "sulgrevad-files" (tag))
-(declare-function sulgrevad--exit "ext:sulgrevad-module" (term))
-(declare-function sulgrevad--exited "ext:sulgrevad-module" (term))
-(declare-function sulgrevad--flush-now "ext:sulgrevad-module" (term))
-(declare-function sulgrevad--is-changed "ext:sulgrevad-module" (term tag))
-(declare-function sulgrevad--is-late "sulgrevad" ())
-(declare-function sulgrevad--is-open "ext:sulgrevad-module" (term tag))
-(declare-function sulgrevad--len "ext:sulgrevad-module" (term tag))
-(declare-function sulgrevad--lose "sulgrevad" (why))
-(declare-function sulgrevad--missing "ext:sulgrevad-module" (term tag place))
-(declare-function sulgrevad--names "sulgrevad-files" ())
-(declare-function sulgrevad--part "ext:sulgrevad-module" (term tag start end))
-(declare-function sulgrevad--pump "sulgrevad" (&optional is-pausing))
-(declare-function sulgrevad--send "sulgrevad" ())
-(declare-function sulgrevad--settle "sulgrevad" (what))
-(declare-function sulgrevad--wait "sulgrevad" (is-there &optional most tell))
 
-;;; What can't go to the host
+(defconst sulgrevad-most-names 1000 "How many names are tried for a file that keeps a text here.")
+(defconst sulgrevad-most-in-base 50
+  "How many characters of a file's name such a name begins with.
+Those of four bytes have room, too.")
+(defconst sulgrevad-most-leaving 10 "How many seconds at most the end of a session takes.")
+(defconst sulgrevad-most-unkept 10 "How many seconds of a lost line pass until a text is kept here again.")
+(defconst sulgrevad--gap-words "[%d characters that were not loaded]" "What stands in such a text for characters that it lacks.")
 
-(defun sulgrevad--waits ()
-  "Whether the terminal may not know each edit of the buffer.
-The command file is nobody's text."
-  (when (sulgrevad--is-ours) (sulgrevad--before-change))
-  (and (eq sulgrevad--self (current-buffer)) (not (eql sulgrevad--tag 0)) sulgrevad--has-drifted))
+(defvar sulgrevad--folder nil "The folder in which the session began.")
+(defvar sulgrevad--copies nil "Tags of files whose text is kept here while the line is lost, and where.")
+(defvar sulgrevad--copied-at 0 "When that was done last.")
 
-(defun sulgrevad--is-handed-over ()
-  "Whether the terminal knows each edit of all buffers."
-  (cl-notany (lambda (buffer) (and (buffer-live-p buffer) (with-current-buffer buffer (sulgrevad--waits)))) sulgrevad--buffers))
+;;; Keeping
 
 (defun sulgrevad--write-new (path text)
   "Write TEXT to a file at PATH that is not there, for its owner alone.
@@ -53,20 +38,6 @@ Return `written'; `there' where another is there; nil where it can't be."
         (with-file-modes #o600 (write-region text nil path nil 'silent nil 'excl) 'written)
       (file-already-exists 'there)
       (error (ignore-errors (delete-file path))))))
-
-(defun sulgrevad--keep (name text tag)
-  "Write TEXT to a file of this machine, NAME.sam-here.
-It is in the session's folder, else in that for temporary files.  It is
-new, but for one in which the text of the file TAG was kept before: a new
-one takes its place.  Return its path, or nil where none can be written."
-  (let* ((inhibit-quit t) (before (assq tag sulgrevad--copies))
-         (path (sulgrevad--keep-new name text)))
-    (setq sulgrevad--copies (delq before sulgrevad--copies))
-    (when (and before path)             ; the old one stays until the new one is whole
-      (condition-case nil (progn (rename-file path (cdr before) t)
-                                 (setq path (cdr before)))
-        (error nil)))
-    path))
 
 (defun sulgrevad--kept-base (name)
   "How the names of files begin in which the text of the file NAME is kept."
@@ -87,56 +58,59 @@ one takes its place.  Return its path, or nil where none can be written."
                               while made
                               when (eq made 'written) return path))))
 
-(defun sulgrevad--loaded (tag)
-  "The terminal's text of the file TAG, with words for what isn't loaded."
-  (let ((place 0) (len (sulgrevad--len sulgrevad--term tag)) (parts nil))
-    (while (< place len)
-      (let ((text (sulgrevad--part sulgrevad--term tag place len)) (missing 0) more)
-        (push text parts)
-        (setq place (+ place (length text)))
-        (while (< 0 (setq more (sulgrevad--missing sulgrevad--term tag place)))
-          (setq place (+ place more) missing (+ missing more)))
-        (when (< 0 missing) (push (format "[%d characters that were not loaded]" missing) parts))))
-    (apply #'concat (nreverse parts))))
+(defun sulgrevad--keep (name text tag)
+  "Write TEXT to a file of this machine, NAME.sam-here.  Return its path, or nil.
+It is new, but for one in which the text of the file TAG was kept before:
+a new one takes its place."
+  (let* ((inhibit-quit t) (before (assq tag sulgrevad--copies)) (path (sulgrevad--keep-new name text)))
+    (setq sulgrevad--copies (delq before sulgrevad--copies))
+    (when (and before path)             ; the old one stays until the new one is whole
+      (ignore-errors (rename-file path (cdr before) t)
+                     (setq path (cdr before))))
+    path))
 
-(defun sulgrevad--keep-buffer (name)
-  "Keep here the text of the buffer, that of the file NAME.
+(defun sulgrevad--text-of (tag)
+  "The text of the file TAG, with words for what isn't loaded."
+  (let ((buffer (sulgrevad--buffer-of tag)))
+    (if (and buffer (not (assq tag sulgrevad--loads))) (with-current-buffer buffer (sulgrevad--text))
+      (sulgrevad--shown tag nil nil sulgrevad--gap-words))))
+
+(defun sulgrevad--keep-text (name tag text)
+  "Keep here the TEXT of the file NAME, which has the TAG.
 Return what to say of it."
-  (let* ((text (sulgrevad--text)) (path (sulgrevad--keep name text sulgrevad--tag)))
-    (setq sulgrevad--has-drifted (null path))
-    (unless path
-      (sulgrevad--kill-text text)
-      (setq buffer-offer-save t))       ; Emacs asks at its end
+  (let ((path (sulgrevad--keep name text tag)) (buffer (sulgrevad--buffer-of tag)))
+    (unless path (sulgrevad--kill-text text))
+    (when buffer
+      (with-current-buffer buffer
+        (setq sulgrevad--has-drifted (null path))
+        (unless path (setq buffer-offer-save t)))) ; Emacs asks at its end
     (format (if path "the text of %s is here in %s" "no file can be written here; the kill ring has the text of %s") name path)))
 
-(defun sulgrevad--keep-file (name tag)
-  "Keep here the text of the file NAME, which has the TAG and no buffer.
-Return what to say of it."
-  (let* ((text (sulgrevad--loaded tag)) (path (sulgrevad--keep name text tag)))
-    (unless path (sulgrevad--kill-text text))
-    (format (if path "what is loaded of %s is here in %s" "no file can be written here; the kill ring has what is loaded of %s")
-            name path)))
+(defun sulgrevad--may-lack (tag)
+  "Whether a text of the file TAG stands here alone, unless the host has all."
+  (let ((buffer (sulgrevad--buffer-of tag)))
+    (or (sulgrevad-file-is-unsaved (sulgrevad--file tag)) (and buffer (with-current-buffer buffer (sulgrevad--waits))))))
 
 (defun sulgrevad--keep-all ()
   "Keep here each text that the host may not have.
 Return what to say of them."
-  (sulgrevad--flush-now sulgrevad--term)
-  (sulgrevad--send)
-  (let ((has-all (sulgrevad--host-has-all)))
+  (unless (and (sulgrevad--host-has-all) (sulgrevad--is-handed-over))
     (cl-loop for (name . tag) in (sulgrevad--names)
-             for buffer = (sulgrevad--buffer-of tag)
-             for is-shown = (and buffer (not (eq t (buffer-local-value 'sulgrevad--changes buffer))))
-             when (or (and buffer (with-current-buffer buffer (sulgrevad--waits)))
-                      (and (not has-all) (sulgrevad--is-open sulgrevad--term tag) (sulgrevad--is-changed sulgrevad--term tag)))
-             collect (if (and is-shown (with-current-buffer buffer (or (sulgrevad--waits) (null sulgrevad--changes))))
-                         (with-current-buffer buffer (sulgrevad--keep-buffer name))
-                       (sulgrevad--keep-file name tag)))))
+             when (sulgrevad--may-lack tag) collect (sulgrevad--keep-text name tag (sulgrevad--text-of tag)))))
+
+(defun sulgrevad--keep-modified ()
+  "Keep here each modified buffer, where the client can't be asked.
+So it is inside of a call of it that a signal broke off, or without
+memory."
+  (cl-loop for buffer in sulgrevad--buffers
+           when (and (buffer-live-p buffer) (buffer-modified-p buffer))
+           collect (with-current-buffer buffer (sulgrevad--keep-text (buffer-name) sulgrevad--tag (sulgrevad--text)))))
 
 (defun sulgrevad--keep-meanwhile ()
   "While the line is lost keep here what the host may not have.
 Where Emacs is killed then it is not lost.  It goes once the host has
 all."
-  (let ((has-all (and (sulgrevad-line-has-all sulgrevad--line) (sulgrevad--is-handed-over))) (now (float-time)))
+  (let ((has-all (sulgrevad-line-has-all sulgrevad--line)) (now (float-time)))
     (cond ((and has-all (sulgrevad-line-is-open sulgrevad--line))
            (dolist (copy sulgrevad--copies) (ignore-errors (delete-file (cdr copy))))
            (setq sulgrevad--copies nil))
@@ -144,26 +118,20 @@ all."
                 (<= sulgrevad-most-unkept (min (sulgrevad-line-silence sulgrevad--line) (- now sulgrevad--copied-at))))
            (setq sulgrevad--copied-at now)
            (cl-loop for (name . tag) in (sulgrevad--names)
-                    for buffer = (sulgrevad--buffer-of tag)
-                    for is-shown = (and buffer (buffer-modified-p buffer) (not (eq t (buffer-local-value 'sulgrevad--changes buffer))))
-                    for path = (and is-shown (sulgrevad--keep name (with-current-buffer buffer (sulgrevad--text)) tag))
+                    for path = (and (sulgrevad--may-lack tag) (sulgrevad--keep name (sulgrevad--text-of tag) tag))
                     when path do (push (cons tag path) sulgrevad--copies))))))
 
 (defun sulgrevad--host-has-all ()
-  "Whether the host has all that was handed over, and will keep it.
+  "Whether the host has all that was done, and will keep it.
 It doesn't where it ends badly, or refuses us."
-  (let ((has-ended-well (eql 0 (sulgrevad-line-ended-with sulgrevad--line))))
-    (or (and has-ended-well (sulgrevad--exited sulgrevad--term)) ; it has answered what came last
-        (and (sulgrevad-line-has-all sulgrevad--line)
-             (or has-ended-well (null (sulgrevad-line-why sulgrevad--line)) (sulgrevad-line-is-taken sulgrevad--line))))))
+  (let ((has-ended-well (eql 0 sulgrevad--ended-with)) (state (sulgrevad--state)))
+    (or (and has-ended-well (sulgrevad-state-has-exited state)) ; it has answered what came last
+        (and (sulgrevad-state-has-all state)
+             (or has-ended-well sulgrevad--is-taken (null (sulgrevad-line-why sulgrevad--line)))))))
 
-(defun sulgrevad--keep-modified ()
-  "Keep here each modified buffer, where the terminal can't be asked.
-So it is inside of a call of it that a signal broke off, or without
-memory."
-  (cl-loop for buffer in sulgrevad--buffers
-           when (and (buffer-live-p buffer) (buffer-modified-p buffer))
-           collect (with-current-buffer buffer (sulgrevad--keep-buffer (buffer-name)))))
+(defun sulgrevad--is-handed-over ()
+  "Whether the client knows each edit of all buffers."
+  (cl-notany (lambda (buffer) (and (buffer-live-p buffer) (with-current-buffer buffer (sulgrevad--waits)))) sulgrevad--buffers))
 
 ;;; What an earlier session has kept here
 
@@ -179,10 +147,14 @@ The one that was written last is the first."
           #'file-newer-than-file-p)))
 
 (defun sulgrevad--offer-left ()
-  "Say that an earlier session has kept a text of the buffer's file here."
+  "Say that earlier sessions have kept texts of the buffer's file here."
   (when-let ((left (sulgrevad--left-here sulgrevad--path)))
-    (message "A text of %s was kept here: %s; M-x sulgrevad-recover takes it, compares or drops it"
-             (buffer-name) (string-join left ", "))))
+    (message "Of %s a text was kept here: %s; M-x sulgrevad-recover takes it, compares or drops it"
+             (buffer-name)
+             (mapconcat (lambda (path)
+                          (format-time-string (concat (string-replace "%" "%%" path) ", of %F %T")
+                                              (file-attribute-modification-time (file-attributes path))))
+                        left "; "))))
 
 (defun sulgrevad-recover (path)
   "Take the text at PATH for the buffer, compare the two, or drop it.
@@ -203,52 +175,46 @@ When it is taken, undo takes it back, and it stays at PATH."
   (let ((text (with-temp-buffer
                 (let ((coding-system-for-read 'utf-8-emacs-unix)) (insert-file-contents path))
                 (buffer-string))))
-    (when (or (not (string-match-p "\\[[0-9]+ characters that were not loaded]" text))
+    (when (or (not (string-match-p (string-replace "%d" "[0-9]+" (regexp-quote sulgrevad--gap-words)) text))
               (yes-or-no-p (format "%s lacks characters that were not loaded; take it? " path)))
-      (sulgrevad--settle "That")
-      (save-restriction
-        (widen)
-        (let* ((mine (sulgrevad--text)) (front (sulgrevad--same-front mine text))
-               (back (sulgrevad--same-front (reverse (substring mine front)) (reverse (substring text front)))))
-          (undo-boundary)
-          (goto-char (1+ front))
-          (delete-region (point) (- (point-max) back))
-          (insert (substring text front (- (length text) back)))))
+      (undo-boundary)
+      (pcase (sulgrevad--difference (sulgrevad--text) text)
+        (`(,start ,end ,to)
+         (save-restriction
+           (widen)
+           (goto-char (1+ start))
+           (delete-region (point) (1+ end))
+           (insert (substring text start to)))))
       (message "%s has that text; undo takes it back. It stays in %s until M-x sulgrevad-recover drops it" (buffer-name) path))))
 
 ;;; Leaving
 
 (defun sulgrevad--may-kill ()
-  "Whether the buffer may be killed.
-What waits goes to the host first, or the user says so."
-  (when (and (sulgrevad--is-ours) (sulgrevad--waits))
-    (message "Sulgrevad: edits of %s wait for the host; C-g keeps the buffer" (buffer-name))
-    (sulgrevad--wait (lambda () (not (sulgrevad--waits)))))
-  (cond (noninteractive t)
-        ((sulgrevad--waits)
-         (yes-or-no-p (format "Edits of %s did not get to the host; kill it all the same? " (buffer-name))))
-        ((and (sulgrevad--is-ours) (sulgrevad--is-changed sulgrevad--term sulgrevad--tag))
-         (yes-or-no-p (format "%s was not written, and the host keeps its text; kill its buffer? " (buffer-name))))
-        (t)))
+  "Whether the buffer may be killed, whose file stays at the host."
+  (when (sulgrevad--is-ours) (sulgrevad--pump))
+  (or noninteractive
+      (cond ((sulgrevad--waits) (yes-or-no-p (format "Edits of %s stand nowhere else; kill it all the same? " (buffer-name))))
+            ((and (sulgrevad--is-ours) (sulgrevad-file-is-unsaved (sulgrevad--file sulgrevad--tag)))
+             (yes-or-no-p (format "%s was not written, and the host keeps its text; kill its buffer? " (buffer-name))))
+            (t))))
 
 (defun sulgrevad--at-kill ()
   "Keep here the text of a buffer that is killed.
-Only where the terminal may not know all of it."
+Only where the client may not know all of it."
   (when (sulgrevad--waits)
-    (sulgrevad--pump)                   ; who asked nobody has not waited either
-    (when (sulgrevad--waits)
-      (message "Sulgrevad: %s" (sulgrevad--keep-buffer (or sulgrevad--path (buffer-name))))))) ; the buffer may be NAME<2>
+    (sulgrevad--pump)                   ; who asked nobody
+    (when (sulgrevad--waits) ; the buffer may be NAME<2>
+      (message "Sulgrevad: %s" (sulgrevad--keep-text (or sulgrevad--path (buffer-name)) sulgrevad--tag (sulgrevad--text))))))
 
 (defun sulgrevad--may-end ()
   "Whether the session may end.
-What waits goes to the host first, and all is written, or the user says
-so."
-  (cond ((null sulgrevad--term) t)
-        ((progn (sulgrevad--wait (lambda () (and (sulgrevad--is-handed-over) (not (sulgrevad--is-late))))) (null sulgrevad--term))
+All went to the host and is written, or the user says so."
+  (cond ((null sulgrevad--client) t)
+        ((progn (sulgrevad--wait (lambda () (and (sulgrevad--is-handed-over) (not (sulgrevad--is-late))))) (null sulgrevad--client))
          nil)                           ; what became of the texts is to be read
         ((not (sulgrevad--is-handed-over)) (yes-or-no-p "Some edits did not get to the host; leave, and keep them here? "))
         ((sulgrevad--is-late) (yes-or-no-p "The host does not answer; leave the session there, and keep here what it may not have? "))
-        ((cl-some (lambda (file) (sulgrevad--is-changed sulgrevad--term (cdr file))) (sulgrevad--names))
+        ((cl-some (lambda (file) (sulgrevad-file-is-unsaved (sulgrevad--file (cdr file)))) (sulgrevad--names))
          (yes-or-no-p "Some files were not written; leave? "))
         (t)))
 
@@ -256,13 +222,11 @@ so."
   "End the session without a question.
 What waits goes to the host, which saves what was not written.  Where it
 does not answer the session stays there."
-  (when sulgrevad--term
-    (sulgrevad--wait #'sulgrevad--is-handed-over sulgrevad-most-leaving)
+  (when sulgrevad--client
     (when (sulgrevad--wait (lambda () (not (sulgrevad--is-late))))
-      (ignore-errors (sulgrevad--exit sulgrevad--term)) ; no memory for it
-      (sulgrevad--wait (lambda () (null sulgrevad--term)) sulgrevad-most-leaving))
-    (when sulgrevad--term
-      (sulgrevad--lose (concat "the host does not answer; " (sulgrevad--how-to-take))))))
+      (ignore-errors (sulgrevad--ask 'exit)) ; no memory for it
+      (sulgrevad--wait (lambda () (null sulgrevad--client)) sulgrevad-most-leaving))
+    (when sulgrevad--client (sulgrevad--lose (concat "the host does not answer; " (sulgrevad--how-to-take))))))
 
 (defun sulgrevad--how-to-take ()
   "How the user comes back to a session that stays."
@@ -271,7 +235,7 @@ does not answer the session stays there."
 (defun sulgrevad--break-off ()
   "Leave the session at the host where a signal ends Emacs.
 `sulgrevad--leave' has been called where it is `kill-emacs' that ends it."
-  (when sulgrevad--term (sulgrevad--lose (concat "Emacs ends; " (sulgrevad--how-to-take)))))
+  (when sulgrevad--client (sulgrevad--lose (concat "Emacs ends; " (sulgrevad--how-to-take)))))
 
 (provide 'sulgrevad-copies)
 ;;; sulgrevad-copies.el ends here

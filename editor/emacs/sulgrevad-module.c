@@ -1,17 +1,19 @@
-/* A dynamic module for Emacs 28: terminals of sulgrevad.h (terminal-calls.c), and its lines, behind Lisp functions.
+/* A dynamic module for Emacs 28: the library's client (sulgrevad.h), behind Lisp functions whose names begin with sulgrevad-client-.
  *
- * Bytes go to and from Lisp as strings of the characters U+0000 to U+00FF, one for each byte, since a module can't read a unibyte string:
- * the process speaks Latin-1. Texts go as what they are. A status that is not SAM_OK is a Lisp error with the status's text, and a status
- * SAM_NONE of a reader is nil. Where memory is out the error is one of two: sulgrevad-no-memory if the same call is to be made again,
- * sulgrevad-unfinished if not. A text that is not Unicode has an error of its own, too.
+ * Bytes go to Lisp as unibyte strings. They come as strings of the characters U+0000 to U+00FF, one for each byte, because a module can't
+ * read a unibyte string: the process speaks Latin-1. Texts go as what they are. A status that is not SAM_OK is a Lisp error with the
+ * status's text, and SAM_NONE of a reader is nil. If memory is out the error is sulgrevad-no-memory: nothing is lost, and the call is to be
+ * made again later. What a function returns that has failed Lisp ignores.
  */
 #define _DEFAULT_SOURCE /* getentropy */
+#include <emacs-module.h>
 #include <stdlib.h>
+#include <string.h>
 #include <unistd.h>
 
-#include "lisp-values.h"
+#include "sulgrevad.h"
 
-/* Emacs sees these names alone. Those of other files here would else be Emacs' own, where it has such ones. */
+/* Emacs sees these names alone. Those of other files here would else be Emacs' own, if it has such ones. */
 #define SHOWN __attribute__((visibility("default")))
 
 /* Emacs loads no module without this name, which promises a licence that goes with the GPL. This repository has chosen none yet, so who
@@ -20,287 +22,525 @@
 SHOWN int plugin_is_GPL_compatible;
 #endif
 
-/* ---- A line ---- */
+enum {
+    MOST_IN_PIPE = 49152, /* bytes that may be on their way to the host: fewer than a pipe takes */
+    TEXT_ROOM = 4 * SAM_MOST_RUNES,
+};
 
-/* The terminal's end of a link with its clock, and the session's id. Lisp hands in the time, in milliseconds. */
-struct end {
-    sam_line line;
+/* A client, and what the program knows of its newest connection. */
+struct session {
+    sam_client client;
+    uint64_t attempt;
+    int64_t given; /* up to this place of our stream the connection was given bytes; its hello counts as bytes before the first */
     uint8_t id[SAM_LINK_ID_BYTES];
 };
 
-static sam_line *line_of(emacs_env *env, emacs_value word)
+/* ---- Values ---- */
+
+static emacs_value call(emacs_env *env, const char *name, ptrdiff_t count, emacs_value *words)
 {
-    return &((struct end *)env->get_user_ptr(env, word))->line;
+    return env->funcall(env, env->intern(env, name), count, words);
 }
 
-/* The number of a connection, or a time. None is -1, which the library refuses. */
-static uint64_t u64(emacs_env *env, emacs_value word)
+#define LIST(env, ...) call(env, "list", sizeof((emacs_value[]){__VA_ARGS__}) / sizeof(emacs_value), (emacs_value[]){__VA_ARGS__})
+
+static emacs_value nil(emacs_env *env)
+{
+    return env->intern(env, "nil");
+}
+
+static emacs_value truth(emacs_env *env, bool value)
+{
+    return env->intern(env, value ? "t" : "nil");
+}
+
+static emacs_value integer(emacs_env *env, uint64_t value)
+{
+    return env->make_integer(env, (intmax_t)value);
+}
+
+static emacs_value text_of(emacs_env *env, const uint8_t *utf8, size_t len)
+{
+    return env->make_string(env, (const char *)utf8, (ptrdiff_t)len);
+}
+
+static emacs_value bytes_of(emacs_env *env, const uint8_t *bytes, size_t len)
+{
+    return env->make_unibyte_string(env, (const char *)bytes, (ptrdiff_t)len);
+}
+
+static emacs_value words_of(emacs_env *env, sam_status status)
+{
+    const char *words = sam_status_text(status);
+    return env->make_string(env, words, (ptrdiff_t)strlen(words));
+}
+
+static emacs_value error_of(emacs_env *env, sam_status status)
+{
+    bool is_short = status == SAM_NO_MEMORY || status == SAM_UNFINISHED || status == SAM_WAITING;
+    emacs_value error = env->intern(env, is_short ? "sulgrevad-no-memory" : "sulgrevad-error");
+    env->non_local_exit_signal(env, error, LIST(env, words_of(env, status)));
+    return nil(env);
+}
+
+/* What a call gives Lisp that has no result, and one with a number. */
+static emacs_value done(emacs_env *env, sam_status status)
+{
+    return status == SAM_OK || status == SAM_NONE ? nil(env) : error_of(env, status);
+}
+
+static emacs_value number(emacs_env *env, sam_status status, uint64_t value)
+{
+    return status == SAM_OK ? integer(env, value) : done(env, status);
+}
+
+static uint64_t time_of(emacs_env *env, emacs_value word)
 {
     return (uint64_t)env->extract_integer(env, word);
 }
 
-static void finalize_line(void *pointer)
+/* A number that Lisp gives. One below 0 or above `most` becomes `most`, which the library refuses. */
+static uint32_t u32(emacs_env *env, emacs_value word, uint32_t most)
 {
-    sam_line_free(&((struct end *)pointer)->line);
-    free(pointer);
+    intmax_t value = env->extract_integer(env, word);
+    return value < 0 || value > most ? most : (uint32_t)value;
 }
 
-/* Makes a line with a random id, at a time, to take a session over where the first word is not nil. */
-static emacs_value make_line(emacs_env *env, ptrdiff_t count, emacs_value *words, void *data)
+static uint16_t tag_of(emacs_env *env, emacs_value word)
 {
-    (void)count, (void)data;
-    struct end *end = calloc(1, sizeof *end);
-    if (end == NULL)
-        return no_memory(env);
-    if (getentropy(end->id, sizeof end->id) != 0) {
-        free(end);
-        return fail(env, "sulgrevad-error", "the system has no random bytes");
-    }
-    if (sam_line_new(&end->line, end->id, env->is_not_nil(env, words[0]), u64(env, words[1])) != SAM_OK) {
-        free(end);
-        return no_memory(env);
-    }
-    return env->make_user_ptr(env, finalize_line, end);
+    return (uint16_t)u32(env, word, UINT16_MAX);
 }
 
-/* The session's name: the first half of its id, in hexadecimal digits. */
-static emacs_value line_name(emacs_env *env, ptrdiff_t count, emacs_value *words, void *data)
+/* The UTF-8 of a string, to be freed, and its length in bytes; NULL if a Lisp error is on its way. */
+static uint8_t *utf8_in(emacs_env *env, emacs_value word, size_t *len)
 {
-    (void)count, (void)data;
-    static const char digits[] = "0123456789abcdef";
-    char name[SAM_LINK_ID_BYTES];
-    const uint8_t *id = ((struct end *)env->get_user_ptr(env, words[0]))->id;
-    for (size_t i = 0; i < sizeof name; i++)
-        name[i] = digits[i % 2 == 0 ? id[i / 2] >> 4 : id[i / 2] & 15];
-    return env->make_string(env, name, sizeof name);
+    ptrdiff_t size = 0;
+    if (!env->copy_string_contents(env, word, NULL, &size))
+        return NULL;
+    char *bytes = malloc((size_t)size);
+    if (bytes == NULL) {
+        error_of(env, SAM_NO_MEMORY);
+    } else if (!env->copy_string_contents(env, word, bytes, &size)) {
+        free(bytes);
+        bytes = NULL;
+    }
+    *len = (size_t)size - 1;
+    return (uint8_t *)bytes;
+}
+
+/* The bytes for which the characters of a string stand, to be freed, and how many; NULL if a Lisp error is on its way. */
+static uint8_t *bytes_in(emacs_env *env, emacs_value word, size_t *len)
+{
+    size_t size = 0, count = 0;
+    uint8_t *bytes = utf8_in(env, word, &size);
+    for (size_t at = 0; bytes != NULL && at < size; count++) {
+        bool is_long = bytes[at] >= 0x80; /* such a character has two bytes here */
+        bytes[count] = is_long ? (uint8_t)(bytes[at] << 6 | (bytes[at + 1] & 0x3F)) : bytes[at];
+        at += is_long ? 2 : 1;
+    }
+    *len = count;
+    return bytes;
+}
+
+/* ---- The line ---- */
+
+static sam_line_details details_of(struct session *session, uint64_t now)
+{
+    sam_line_details details = {0};
+    if (sam_client_describe(&session->client, now, &details) != SAM_OK)
+        details.state = SAM_LINE_LOST; /* which can't be: the client is made */
+    return details;
+}
+
+static bool is_open(struct session *session, uint64_t now)
+{
+    uint32_t state = details_of(session, now).state;
+    return state == SAM_LINE_OPEN || state == SAM_LINE_LATE;
+}
+
+static emacs_value id(emacs_env *env, struct session *session, emacs_value *words)
+{
+    (void)words;
+    return bytes_of(env, session->id, sizeof session->id);
 }
 
 /* What is to be done at a time: `connect', `drop', `ask' or nil. */
-static emacs_value line_tick(emacs_env *env, ptrdiff_t count, emacs_value *words, void *data)
+static emacs_value tick(emacs_env *env, struct session *session, emacs_value *words)
 {
-    (void)count, (void)data;
     static const char *const ticks[] = {"nil", "connect", "drop", "ask"};
-    uint32_t tick = SAM_TICK_NOTHING;
-    sam_status status = sam_line_tick(line_of(env, words[0]), u64(env, words[1]), &tick);
-    return status == SAM_OK ? env->intern(env, ticks[tick]) : error_of(env, status);
+    uint32_t found = SAM_TICK_NOTHING;
+    sam_status status = sam_client_tick(&session->client, time_of(env, words[0]), &found);
+    return status == SAM_OK ? env->intern(env, ticks[found]) : error_of(env, status);
 }
 
 /* In how many milliseconds something is to be done, or nil. */
-static emacs_value line_due_in(emacs_env *env, ptrdiff_t count, emacs_value *words, void *data)
+static emacs_value due_in(emacs_env *env, struct session *session, emacs_value *words)
 {
-    (void)count, (void)data;
     uint64_t left = 0;
-    sam_status status = sam_line_due_in(line_of(env, words[0]), u64(env, words[1]), &left);
+    sam_status status = sam_client_due_in(&session->client, time_of(env, words[0]), &left);
     return number(env, status, left);
 }
 
-/* A connection is open, of which this is the number; or none can be made; or that of this number is over. */
-static emacs_value line_connected(emacs_env *env, ptrdiff_t count, emacs_value *words, void *data)
+static emacs_value connected(emacs_env *env, struct session *session, emacs_value *words)
 {
-    (void)count, (void)data;
-    uint64_t attempt = 0;
-    sam_status status = sam_line_connected(line_of(env, words[0]), u64(env, words[1]), &attempt);
-    return number(env, status, attempt);
-}
-
-static emacs_value line_not_connected(emacs_env *env, ptrdiff_t count, emacs_value *words, void *data)
-{
-    (void)count, (void)data;
-    return done(env, sam_line_not_connected(line_of(env, words[0]), u64(env, words[1])));
-}
-
-static emacs_value line_broken(emacs_env *env, ptrdiff_t count, emacs_value *words, void *data)
-{
-    (void)count, (void)data;
-    return done(env, sam_line_broken(line_of(env, words[0]), u64(env, words[1]), u64(env, words[2])));
-}
-
-/* Bytes that came on a connection. nil where they are taken, else the number of why the connection, or the line, is over. */
-static emacs_value line_receive(emacs_env *env, ptrdiff_t count, emacs_value *words, void *data)
-{
-    (void)count, (void)data;
-    size_t len;
-    uint8_t *bytes = bytes_of(env, words[2], &len);
-    if (bytes == NULL)
-        return nil(env);
-    sam_status status = sam_line_receive(line_of(env, words[0]), u64(env, words[1]), bytes, len, u64(env, words[3]));
-    free(bytes);
-    return status == SAM_OK || status == SAM_NO_MEMORY ? done(env, status) : number(env, SAM_OK, status);
-}
-
-static emacs_value line_take_out(emacs_env *env, ptrdiff_t count, emacs_value *words, void *data)
-{
-    (void)count, (void)data;
-    static uint8_t bytes[PIECE];
-    size_t len = 0;
-    sam_status status = sam_line_take_out(line_of(env, words[0]), u64(env, words[1]), bytes, u32(env, words[2], PIECE), &len);
-    return status == SAM_OK ? string_of(env, bytes, len) : error_of(env, status);
-}
-
-/* What came for the program: bytes, "" where there are none; a message, or nil. */
-static emacs_value line_take_in(emacs_env *env, ptrdiff_t count, emacs_value *words, void *data)
-{
-    (void)count, (void)data;
-    static uint8_t bytes[PIECE];
-    size_t len = 0;
-    sam_status status = sam_line_take_in(line_of(env, words[0]), bytes, sizeof bytes, &len);
-    return status == SAM_OK ? string_of(env, bytes, len) : error_of(env, status);
-}
-
-/* What kinds and codes of messages are called in Lisp. */
-static const char *const kinds[] = {
-    [SAM_NOTE_OPEN] = "open",
-    [SAM_NOTE_COMPLETE] = "complete",
-    [SAM_NOTE_RELOAD] = "reload",
-    [SAM_NOTE_RELOADED] = "reloaded",
-    [SAM_NOTE_WRITE] = "write",
-    [SAM_NOTE_SESSION] = "session",
-    [SAM_NOTE_SAID] = "said",
-    [SAM_NOTE_SHOWN] = "shown",
-    [SAM_NOTE_TAKEN_OVER] = "taken-over",
-    [SAM_NOTE_ENDED] = "ended",
-    [SAM_NOTE_OPENED] = "opened",
-    [SAM_NOTE_REFUSED] = "refused",
-    [SAM_NOTE_NAMES] = "names",
-    [SAM_NOTE_ANEW] = "anew",
-    [SAM_NOTE_SAVED] = "saved",
-    [SAM_NOTE_NOT_SAVED] = "not-saved",
-    [SAM_NOTE_CHANGED] = "changed",
-    [SAM_NOTE_DATED] = "dated",
-    [SAM_NOTE_EARLIER] = "earlier",
-    [SAM_NOTE_ASIDE] = "aside",
-    [SAM_NOTE_LOST] = "lost",
-    [SAM_NOTE_NO_JOURNAL] = "no-journal",
-};
-
-/* A message as Lisp has it: a list of its kind and fields, paths as strings of bytes; or `unknown' for one of a later version. */
-static emacs_value message_of(emacs_env *env, const uint8_t *bytes, size_t len)
-{
-    struct sam_note note;
-    if (sam_note_read(bytes, len, &note) != SAM_OK)
-        return env->intern(env, "unknown");
-    emacs_value fields[] = {
-        env->intern(env, kinds[note.kind]),
-        env->make_integer(env, note.request),
-        env->make_integer(env, note.tag),
-        env->make_integer(env, note.code),
-        env->make_integer(env, (intmax_t)note.number),
-        string_of(env, bytes + note.path_at, note.path_len),
-        string_of(env, bytes + note.copy_at, note.copy_len),
-        env->make_string(env, (const char *)bytes + note.text_at, (ptrdiff_t)note.text_len),
-    };
-    return call(env, "list", sizeof fields / sizeof fields[0], fields);
-}
-
-static emacs_value line_next_note(emacs_env *env, ptrdiff_t count, emacs_value *words, void *data)
-{
-    (void)count, (void)data;
-    uint8_t note[SAM_LINK_MOST_NOTE];
-    size_t len = 0;
-    sam_status status = sam_line_next_note(line_of(env, words[0]), note, sizeof note, &len);
-    return status == SAM_OK ? message_of(env, note, len) : number(env, status, 0);
-}
-
-static emacs_value line_put(emacs_env *env, ptrdiff_t count, emacs_value *words, void *data)
-{
-    (void)count, (void)data;
-    size_t len;
-    uint8_t *bytes = bytes_of(env, words[1], &len);
-    if (bytes == NULL)
-        return nil(env);
-    sam_status status = sam_line_put(line_of(env, words[0]), bytes, len, u64(env, words[2]));
-    free(bytes);
+    uint64_t now = time_of(env, words[0]);
+    sam_status status = sam_client_connected(&session->client, now, &session->attempt);
+    session->given = (int64_t)details_of(session, now).acknowledged - SAM_LINK_HELLO_BYTES;
     return done(env, status);
 }
 
-/* Puts a request of a kind, a number, and a path, which is a string of bytes. */
-static emacs_value line_put_request(emacs_env *env, ptrdiff_t count, emacs_value *words, void *data)
+static emacs_value not_connected(emacs_env *env, struct session *session, emacs_value *words)
 {
-    (void)count, (void)data;
-    bool opens = env->eq(env, words[1], env->intern(env, kinds[SAM_NOTE_OPEN]));
-    struct sam_note note = {.kind = opens ? SAM_NOTE_OPEN : SAM_NOTE_COMPLETE, .request = u32(env, words[2], UINT32_MAX)};
-    uint8_t bytes[SAM_LINK_MOST_NOTE], *path = bytes_of(env, words[3], &note.path_len);
+    return done(env, sam_client_not_connected(&session->client, time_of(env, words[0])));
+}
+
+static emacs_value broken(emacs_env *env, struct session *session, emacs_value *words)
+{
+    return done(env, sam_client_broken(&session->client, session->attempt, time_of(env, words[0])));
+}
+
+static emacs_value expect(emacs_env *env, struct session *session, emacs_value *words)
+{
+    return done(env, sam_client_expect(&session->client, env->is_not_nil(env, words[0]), time_of(env, words[1])));
+}
+
+/* Bytes that came on the newest connection. nil if they are taken, else the number of why the connection, or the line, is over. */
+static emacs_value receive(emacs_env *env, struct session *session, emacs_value *words)
+{
+    uint64_t now = time_of(env, words[1]);
+    bool was_open = is_open(session, now);
+    size_t len;
+    uint8_t *bytes = bytes_in(env, words[0], &len);
+    if (bytes == NULL)
+        return nil(env);
+    sam_status status = sam_client_receive(&session->client, session->attempt, bytes, len, now);
+    free(bytes);
+    if (!was_open && is_open(session, now) && session->attempt > 1)
+        session->given = (int64_t)details_of(session, now).acknowledged; /* it goes on where the host's welcome says */
+    return status == SAM_NO_MEMORY ? error_of(env, status) : status == SAM_OK ? nil(env) : integer(env, status);
+}
+
+/* The next bytes for the newest connection. There are none if its pipe may take no more. */
+static emacs_value take_out(emacs_env *env, struct session *session, emacs_value *words)
+{
+    static uint8_t bytes[MOST_IN_PIPE + SAM_LINK_HELLO_BYTES];
+    int64_t under_way = session->given - (int64_t)details_of(session, time_of(env, words[0])).acknowledged;
+    size_t len = 0;
+    if (under_way < MOST_IN_PIPE) {
+        sam_status status = sam_client_take_out(&session->client, session->attempt, bytes, (size_t)(MOST_IN_PIPE - under_way), &len);
+        if (status != SAM_OK)
+            return error_of(env, status);
+        session->given += (int64_t)len;
+    }
+    return bytes_of(env, bytes, len);
+}
+
+static emacs_value acknowledge(emacs_env *env, struct session *session, emacs_value *words)
+{
+    (void)words;
+    return done(env, sam_client_acknowledge(&session->client));
+}
+
+/* ---- What is told ---- */
+
+/* What kinds of messages are called in Lisp. The others have nothing but words for people there. */
+static const char *const kinds[SAM_NOTE_NO_JOURNAL + 1] = {
+    [SAM_NOTE_OPEN] = "open",
+    [SAM_NOTE_ANEW] = "anew",
+    [SAM_NOTE_LOST] = "lost",
+    [SAM_NOTE_SHOWN] = "shown",
+    [SAM_NOTE_ENDED] = "ended",
+    [SAM_NOTE_NAMES] = "names",
+    [SAM_NOTE_SAVED] = "saved",
+    [SAM_NOTE_OPENED] = "opened",
+    [SAM_NOTE_SESSION] = "session",
+    [SAM_NOTE_REFUSED] = "refused",
+    [SAM_NOTE_COMPLETE] = "complete",
+    [SAM_NOTE_NOT_SAVED] = "not-saved",
+    [SAM_NOTE_TAKEN_OVER] = "taken-over",
+};
+
+/* The message that was told last: `note', its kind, and its fields, paths as bytes. The kind is nil if it can't be read, since it is of a
+ * later version. */
+static emacs_value note_of(emacs_env *env, sam_client *client)
+{
+    uint8_t bytes[SAM_LINK_MOST_NOTE];
+    size_t len = 0;
+    struct sam_note note = {0};
+    sam_status status = sam_client_note(client, bytes, sizeof bytes, &len);
+    if (status == SAM_OK)
+        status = sam_note_read(bytes, len, &note);
+    const char *kind = status != SAM_OK ? "nil" : kinds[note.kind] != NULL ? kinds[note.kind] : "said";
+    return LIST(env, env->intern(env, "note"), env->intern(env, kind), integer(env, note.request), integer(env, note.tag),
+                integer(env, note.code), integer(env, note.number), bytes_of(env, bytes + note.path_at, note.path_len),
+                bytes_of(env, bytes + note.copy_at, note.copy_len), text_of(env, bytes + note.text_at, note.text_len));
+}
+
+/* The changes of the shown texts by the last step: `stepped', and of each its kind, its file, its place, and how many runes. */
+static emacs_value step_of(emacs_env *env, sam_client *client)
+{
+    static const char *const names[] = {"", "came", "went", "filled", "emptied"};
+    emacs_value all = LIST(env, env->intern(env, "stepped"));
+    sam_splice splice;
+    while (sam_client_next_splice(client, &splice) == SAM_OK) {
+        emacs_value kind = env->intern(env, names[splice.kind]);
+        emacs_value one = LIST(env, kind, integer(env, splice.tag), integer(env, splice.place), integer(env, splice.count));
+        all = call(env, "cons", 2, (emacs_value[]){one, all});
+    }
+    return call(env, "nreverse", 1, &all);
+}
+
+/* Goes on until something is told, as the functions above have it, or why a request was refused: `refused' and words. nil if nothing is. */
+static emacs_value next_event(emacs_env *env, struct session *session, emacs_value *words)
+{
+    sam_client_event told = SAM_CLIENT_BUSY;
+    sam_did did;
+    sam_status status = SAM_OK;
+    while (status == SAM_OK && told == SAM_CLIENT_BUSY)
+        status = sam_client_next_event(&session->client, time_of(env, words[0]), &told, &did);
+    if (status != SAM_OK)
+        return error_of(env, status);
+    return told == SAM_CLIENT_STEPPED   ? step_of(env, &session->client)
+           : told == SAM_CLIENT_NOTE    ? note_of(env, &session->client)
+           : told == SAM_CLIENT_REFUSED ? LIST(env, env->intern(env, "refused"), words_of(env, did.why))
+                                        : nil(env);
+}
+
+/* ---- What the user does ---- */
+
+/* Puts a request of a kind, a number, and a path, which is a string of bytes. */
+static emacs_value put_request(emacs_env *env, struct session *session, emacs_value *words)
+{
+    bool opens = env->eq(env, words[0], env->intern(env, kinds[SAM_NOTE_OPEN]));
+    struct sam_note note = {.kind = opens ? SAM_NOTE_OPEN : SAM_NOTE_COMPLETE, .request = u32(env, words[1], UINT32_MAX)};
+    uint8_t bytes[SAM_LINK_MOST_NOTE], *path = bytes_in(env, words[2], &note.path_len);
     size_t len = 0;
     if (path == NULL)
         return nil(env);
     sam_status status = sam_note_write(&note, path, NULL, NULL, bytes, sizeof bytes, &len);
     free(path);
-    return done(env, status == SAM_OK ? sam_line_put_note(line_of(env, words[0]), bytes, len, u64(env, words[4])) : status);
+    return done(env, status == SAM_OK ? sam_client_put_note(&session->client, bytes, len, time_of(env, words[3])) : status);
 }
 
-/* Whether an answer of the host is waited for. */
-static emacs_value line_expect(emacs_env *env, ptrdiff_t count, emacs_value *words, void *data)
+/* A text takes the place of the shown runes of a file from a place to a place. Why it can't, or nil. */
+static emacs_value replace(emacs_env *env, struct session *session, emacs_value *words)
 {
-    (void)count, (void)data;
-    return done(env, sam_line_expect(line_of(env, words[0]), env->is_not_nil(env, words[1]), u64(env, words[2])));
+    uint32_t start = u32(env, words[1], UINT32_MAX), end = u32(env, words[2], UINT32_MAX);
+    size_t len = 0;
+    uint8_t *text = utf8_in(env, words[3], &len);
+    if (text == NULL)
+        return nil(env);
+    sam_status status = sam_client_replace(&session->client, tag_of(env, words[0]), start, end, text, len);
+    free(text);
+    bool is_refused = status == SAM_NOT_TEXT || (status > SAM_REFUSAL && status < SAM_SCRIPT);
+    return is_refused ? words_of(env, status) : done(env, status);
 }
 
-static emacs_value line_ask(emacs_env *env, ptrdiff_t count, emacs_value *words, void *data)
+/* Asks for an event of a kind, with a file, two numbers and a text, which are not read if the kind has none. */
+static emacs_value ask(emacs_env *env, struct session *session, emacs_value *words)
 {
-    (void)count, (void)data;
-    return done(env, sam_line_ask(line_of(env, words[0]), u64(env, words[1])));
+    static const char *const names[] = {
+        [SAM_EVENT_SELECT] = "select",     [SAM_EVENT_VIEW] = "view",   [SAM_EVENT_LOAD] = "load",
+        [SAM_EVENT_OPEN] = "open",         [SAM_EVENT_WRITE] = "write", [SAM_EVENT_CLOSE] = "close",
+        [SAM_EVENT_OPEN_CMD] = "open-cmd", [SAM_EVENT_WORK] = "work",   [SAM_EVENT_OFFER_VERSION] = "offer-version",
+        [SAM_EVENT_TYPE_CMD] = "type-cmd", [SAM_EVENT_EXIT] = "exit"};
+    sam_event event = {.tag = tag_of(env, words[1]), .start = u32(env, words[2], UINT32_MAX), .number = u32(env, words[3], UINT32_MAX)};
+    event.version = (uint16_t)event.number;
+    for (size_t i = 0; i < sizeof names / sizeof names[0]; i++)
+        if (names[i] != NULL && env->eq(env, words[0], env->intern(env, names[i])))
+            event.kind = (sam_event_kind)i;
+    size_t len = 0;
+    uint8_t *text = utf8_in(env, words[4], &len);
+    if (text == NULL)
+        return nil(env);
+    sam_status status = sam_client_ask(&session->client, &event, text, len);
+    free(text);
+    return status == SAM_NONE ? error_of(env, status) : done(env, status);
 }
 
-static emacs_value line_acknowledge(emacs_env *env, ptrdiff_t count, emacs_value *words, void *data)
-{
-    (void)count, (void)data;
-    return done(env, sam_line_acknowledge(line_of(env, words[0])));
-}
+/* ---- Readers ---- */
 
-/* How a line is, as a list: its state, silence, round trip, the bytes that the host has acknowledged, whether a host was met, and whether
- * it has all. */
-static emacs_value line_describe(emacs_env *env, ptrdiff_t count, emacs_value *words, void *data)
+/* How the session is, as a list: the line's state; for how many milliseconds it is silent; whether a host was met, and whether it has all;
+ * how many requests wait, and whether one, or an edit, is to act next; whether the command line is locked; whether the session has ended;
+ * how many tags there are. */
+static emacs_value describe(emacs_env *env, struct session *session, emacs_value *words)
 {
-    (void)count, (void)data;
     static const char *const states[] = {"down", "connecting", "open", "late", "lost"};
-    sam_line_details details;
-    sam_status status = sam_line_describe(line_of(env, words[0]), u64(env, words[1]), &details);
+    sam_line_details line = details_of(session, time_of(env, words[0]));
+    sam_state state;
+    bool has_all = false;
+    size_t requests = 0;
+    sam_status status = sam_client_state(&session->client, &state);
+    if (status == SAM_OK)
+        status = sam_client_has_all(&session->client, &has_all);
+    if (status == SAM_OK)
+        status = sam_client_requests(&session->client, &requests);
     if (status != SAM_OK)
         return error_of(env, status);
-    emacs_value fields[] = {
-        env->intern(env, states[details.state]),
-        env->make_integer(env, (intmax_t)details.silence),
-        env->make_integer(env, (intmax_t)details.round_trip),
-        env->make_integer(env, (intmax_t)details.acknowledged),
-        truth(env, SAM_OK, details.is_known),
-        truth(env, SAM_OK, details.has_all),
-    };
-    return call(env, "list", sizeof fields / sizeof fields[0], fields);
+    return LIST(env, env->intern(env, states[line.state]), integer(env, line.silence), truth(env, line.is_known), truth(env, has_all),
+                integer(env, requests + state.held), truth(env, state.held > 0), truth(env, state.command_locked), truth(env, state.exited),
+                integer(env, state.tags));
+}
+
+/* How a file is, as a list: whether it is known, open, locked and unsaved; how many runes are shown; where its dot begins and ends. */
+static emacs_value file(emacs_env *env, struct session *session, emacs_value *words)
+{
+    uint16_t tag = tag_of(env, words[0]);
+    sam_file file;
+    bool is_unsaved = false;
+    uint32_t len = 0;
+    sam_status status = sam_client_file(&session->client, tag, &file);
+    if (status == SAM_OK)
+        status = sam_client_is_unsaved(&session->client, tag, &is_unsaved);
+    if (status == SAM_OK && file.is_open)
+        status = sam_client_len(&session->client, tag, &len);
+    if (status != SAM_OK)
+        return error_of(env, status);
+    return LIST(env, truth(env, file.is_known), truth(env, file.is_open), truth(env, file.is_locked), truth(env, is_unsaved),
+                integer(env, len), integer(env, file.dot_start), integer(env, file.dot_end));
+}
+
+static emacs_value name(emacs_env *env, struct session *session, emacs_value *words)
+{
+    uint8_t bytes[SAM_MOST_NAME_BYTES];
+    size_t len;
+    sam_status status = sam_client_name(&session->client, tag_of(env, words[0]), bytes, sizeof bytes, &len);
+    return status == SAM_OK ? text_of(env, bytes, len) : done(env, status);
+}
+
+static emacs_value first_gap(emacs_env *env, struct session *session, emacs_value *words)
+{
+    uint32_t gap = 0;
+    sam_status status = sam_client_first_gap(&session->client, tag_of(env, words[0]), 0, &gap);
+    return number(env, status, gap);
+}
+
+static uint8_t text_room[TEXT_ROOM]; /* of a text that goes to Lisp */
+
+static size_t put_rune(uint32_t rune, uint8_t *into)
+{
+    static const uint8_t heads[] = {0, 0, 0xC0, 0xE0, 0xF0};
+    size_t len = rune < 0x80 ? 1 : rune < 0x800 ? 2 : rune < 0x10000 ? 3 : 4;
+    for (size_t i = len - 1; i > 0; i--, rune >>= 6)
+        into[i] = (uint8_t)(0x80 | (rune & 0x3F));
+    into[0] = (uint8_t)(heads[len] | rune);
+    return len;
+}
+
+/* So many shown runes of a file from a place on, as a list of texts and of numbers, which count gaps. */
+static emacs_value pieces(emacs_env *env, struct session *session, emacs_value *words)
+{
+    static uint32_t runes[SAM_MOST_RUNES];
+    uint32_t found = 0, place = u32(env, words[1], UINT32_MAX), count = u32(env, words[2], SAM_MOST_RUNES);
+    sam_status status = sam_client_read(&session->client, tag_of(env, words[0]), place, runes, count, &found);
+    if (status != SAM_OK)
+        return done(env, status);
+    emacs_value all = nil(env);
+    for (uint32_t at = 0; at < found;) {
+        uint32_t from = at;
+        size_t len = 0;
+        bool is_gap = runes[at] == SAM_GAP;
+        for (; at < found && (runes[at] == SAM_GAP) == is_gap; at++)
+            len += is_gap ? 0 : put_rune(runes[at], text_room + len);
+        emacs_value one = is_gap ? integer(env, at - from) : text_of(env, text_room, len);
+        all = call(env, "cons", 2, (emacs_value[]){one, all});
+    }
+    return call(env, "nreverse", 1, &all);
+}
+
+/* Takes back the next text for which the host left no room: its file, its place, how many runes went of the shown text, and itself. nil if
+ * there is none. */
+static emacs_value drop_next(emacs_env *env, struct session *session, emacs_value *words)
+{
+    (void)words;
+    sam_splice splice;
+    size_t len = 0;
+    uint16_t tag = 0;
+    sam_status status = SAM_NONE;
+    for (bool is_more = true; is_more && status == SAM_NONE; is_more = tag++ < UINT16_MAX) {
+        if (sam_client_next_waiting(&session->client, tag, &tag) != SAM_OK)
+            return nil(env);
+        status = sam_client_drop_next(&session->client, tag, &splice, text_room, sizeof text_room, &len);
+    }
+    if (status != SAM_OK)
+        return done(env, status);
+    return LIST(env, integer(env, splice.tag), integer(env, splice.place), integer(env, splice.count), text_of(env, text_room, len));
 }
 
 /* ---- The module ---- */
+
+struct function {
+    const char *name;
+    emacs_value (*of)(emacs_env *env, struct session *session, emacs_value *words);
+    ptrdiff_t count; /* of words behind the client */
+};
+
+static const struct function functions[] = {
+    {"id", id, 0},
+    {"ask", ask, 5},
+    {"tick", tick, 1},
+    {"file", file, 1},
+    {"name", name, 1},
+    {"due-in", due_in, 1},
+    {"broken", broken, 1},
+    {"expect", expect, 2},
+    {"pieces", pieces, 3},
+    {"receive", receive, 2},
+    {"replace", replace, 4},
+    {"take-out", take_out, 1},
+    {"describe", describe, 1},
+    {"connected", connected, 1},
+    {"drop-next", drop_next, 0},
+    {"first-gap", first_gap, 1},
+    {"next-event", next_event, 1},
+    {"acknowledge", acknowledge, 0},
+    {"put-request", put_request, 4},
+    {"not-connected", not_connected, 1},
+};
+
+static emacs_value invoke(emacs_env *env, ptrdiff_t count, emacs_value *words, void *data)
+{
+    (void)count;
+    struct session *session = env->get_user_ptr(env, words[0]);
+    return session == NULL ? nil(env) : ((const struct function *)data)->of(env, session, words + 1);
+}
+
+static void finalize(void *pointer)
+{
+    sam_client_free(&((struct session *)pointer)->client);
+    free(pointer);
+}
+
+/* Makes a client with a random id, to take a session over if the first word is not nil, at a time. */
+static emacs_value make(emacs_env *env, ptrdiff_t count, emacs_value *words, void *data)
+{
+    (void)count, (void)data;
+    struct session *session = calloc(1, sizeof *session);
+    if (session == NULL || getentropy(session->id, sizeof session->id) != 0 ||
+        sam_client_new(&session->client, session->id, env->is_not_nil(env, words[0]), time_of(env, words[1])) != SAM_OK) {
+        free(session);
+        return error_of(env, SAM_NO_MEMORY);
+    }
+    return env->make_user_ptr(env, finalize, session);
+}
+
+static void define(emacs_env *env, const char *name, emacs_value function)
+{
+    char whole[64] = "sulgrevad-client-";
+    strncat(whole, name, sizeof whole - strlen(whole) - 1);
+    call(env, "defalias", 2, (emacs_value[]){env->intern(env, whole), function});
+}
 
 SHOWN int emacs_module_init(struct emacs_runtime *runtime)
 {
     emacs_env *env = runtime->get_environment(runtime);
     if ((size_t)runtime->size < sizeof *runtime || (size_t)env->size < sizeof *env)
         return 1;
-    define_terminal(env);
-    static const struct {
-        const char *name;
-        emacs_function function;
-        ptrdiff_t count;
-    } lines[] = {
-        {"make-line", make_line, 2},
-        {"line-name", line_name, 1},
-        {"line-tick", line_tick, 2},
-        {"line-due-in", line_due_in, 2},
-        {"line-connected", line_connected, 2},
-        {"line-not-connected", line_not_connected, 2},
-        {"line-broken", line_broken, 3},
-        {"line-put", line_put, 3},
-        {"line-put-request", line_put_request, 5},
-        {"line-expect", line_expect, 3},
-        {"line-ask", line_ask, 2},
-        {"line-acknowledge", line_acknowledge, 1},
-        {"line-take-out", line_take_out, 3},
-        {"line-receive", line_receive, 4},
-        {"line-take-in", line_take_in, 1},
-        {"line-next-note", line_next_note, 1},
-        {"line-describe", line_describe, 2},
-    };
-    for (size_t i = 0; i < sizeof lines / sizeof lines[0]; i++)
-        define(env, lines[i].name, lines[i].count, lines[i].count, lines[i].function, NULL);
+    define(env, "make", env->make_function(env, 2, 2, make, NULL, NULL));
+    for (size_t i = 0; i < sizeof functions / sizeof functions[0]; i++) {
+        ptrdiff_t count = functions[i].count + 1;
+        define(env, functions[i].name, env->make_function(env, count, count, invoke, NULL, (void *)(uintptr_t)&functions[i]));
+    }
     emacs_value feature = env->intern(env, "sulgrevad-module");
     call(env, "provide", 1, &feature);
     return 0;

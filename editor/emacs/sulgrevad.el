@@ -14,8 +14,8 @@
 ;; another file of the session, C-x # closes the file for good, M-x sulgrevad-reconnect tries a lost line now, where ssh may ask for a
 ;; password, and M-x sulgrevad-quit leaves.
 ;;
-;; sulgrevad-buffer.el says how a buffer and the terminal's text stay the same, sulgrevad-copies.el what becomes of text that the host may
-;; not have, sulgrevad-line.el how the line goes on through breaks.
+;; sulgrevad-buffer.el says how a buffer and the client's text stay the same, sulgrevad-session.el what goes on by itself,
+;; sulgrevad-copies.el what becomes of text that the host may not have, sulgrevad-line.el how the line goes over processes.
 
 ;;; Code:
 
@@ -23,40 +23,19 @@
 (require 'subr-x)
 (require 'sulgrevad-buffer)
 (require 'sulgrevad-copies)
-(require 'sulgrevad-files)
 (require 'sulgrevad-line)
-(require 'sulgrevad-state)
+(require 'sulgrevad-session)
 
-(declare-function sulgrevad--bring "ext:sulgrevad-module" (term bytes))
-(declare-function sulgrevad--command-locked "ext:sulgrevad-module" (term))
-(declare-function sulgrevad--first-gap "ext:sulgrevad-module" (term tag))
-(declare-function sulgrevad--flush-now "ext:sulgrevad-module" (term))
-(declare-function sulgrevad--held "ext:sulgrevad-module" (term))
-(declare-function sulgrevad--is-open "ext:sulgrevad-module" (term tag))
-(declare-function sulgrevad--load "ext:sulgrevad-module" (term tag place len))
-(declare-function sulgrevad--locked "ext:sulgrevad-module" (term tag))
-(declare-function sulgrevad--make "ext:sulgrevad-module" ())
-(declare-function sulgrevad--name "ext:sulgrevad-module" (term tag))
-(declare-function sulgrevad--next-refusal "ext:sulgrevad-module" (term))
-(declare-function sulgrevad--offer-version "ext:sulgrevad-module" (term version))
-(declare-function sulgrevad--open-cmd "ext:sulgrevad-module" (term))
-(declare-function sulgrevad--step "ext:sulgrevad-module" (term))
-(declare-function sulgrevad--take-out "ext:sulgrevad-module" (term))
-(declare-function sulgrevad--view "ext:sulgrevad-module" (term tag place len))
+(defconst sulgrevad-version-offered 2 "The version of the protocol.")
+(defconst sulgrevad-most-runes 1000000 "How many runes a text has at most.")
+(defconst sulgrevad-most-typed 512 "How many runes of a command line are typed at once.")
+(defconst sulgrevad--is-folder 5 "The code of a path that is a folder's.")
+(defconst sulgrevad--replacing '((11 . "another program changed it") (12 . "it is there already"))
+  "Codes of writes that would have replaced what stands in the file.")
 
-(defconst sulgrevad--hooks
-  '((before-change-functions sulgrevad--before-change 100) (after-change-functions sulgrevad--after-change -100)
-    (write-contents-functions sulgrevad--write-contents) (kill-buffer-query-functions sulgrevad--may-kill)
-    (kill-buffer-hook sulgrevad--at-kill))
-  "What is called in the buffer of an open file, by which hooks, how late.
-Functions of others on these hooks may change the buffer, too: of that
-the first learns after them, the second before them.")
-(defconst sulgrevad--global-hooks
-  '((post-command-hook sulgrevad--after-command) (pre-command-hook sulgrevad--before-command)
-    (kill-emacs-query-functions sulgrevad--may-end) (kill-emacs-hook sulgrevad--break-off))
-  "What is called while there is a session, with the hooks that call it.")
-(dolist (hook sulgrevad--hooks)
-  (put (cadr hook) 'permanent-local-hook t))
+(defvar sulgrevad--number 0 "The number of the last question to the host.")
+(defvar sulgrevad--history nil "Commands that have run hosts.")
+(defvar sulgrevad--paths nil "Paths that were read.")
 
 (defvar sulgrevad-mode-map
   (let ((map (make-sparse-keymap)))
@@ -72,253 +51,9 @@ the first learns after them, the second before them.")
   :lighter (:eval (sulgrevad--lighter)))
 
 (defun sulgrevad--lighter ()
-  "The mode line's word on how the line is, or that the file is locked."
+  "The mode line's word on how the line is."
   (let ((state (and sulgrevad--line (sulgrevad-line-told-state sulgrevad--line))))
-    (cond (state (format " Sam[%s]" state))
-          (sulgrevad--is-locked " Sam[locked]")
-          (t " Sam"))))
-
-;;; The stream
-
-(defun sulgrevad--each (function)
-  "Call FUNCTION in each buffer of an open file.
-Then signal the first error of it."
-  (setq sulgrevad--buffers (cl-remove-if-not #'buffer-live-p sulgrevad--buffers))
-  (let (first)
-    (dolist (buffer sulgrevad--buffers)
-      (when (buffer-live-p buffer)      ; a hook of another may have killed it
-        (condition-case why (with-current-buffer buffer (when sulgrevad--tag (funcall function)))
-          (error (setq first (or first why))))))
-    (when first (signal (car first) (cdr first)))))
-
-(defun sulgrevad--hook-up ()
-  "Have the hooks of the buffer follow each edit."
-  (dolist (hook sulgrevad--hooks)
-    (unless (and (eql sulgrevad--tag 0) (eq (car hook) 'write-contents-functions))
-      (add-hook (car hook) (cadr hook) (caddr hook) t))))
-
-(defun sulgrevad--let-go ()
-  "Have the buffer stay readable, and be of no file any more."
-  (if (sulgrevad--waits)                ; then it asks before it is killed
-      (dolist (hook sulgrevad--hooks)
-        (unless (memq (car hook) '(kill-buffer-query-functions kill-buffer-hook)) (remove-hook (car hook) (cadr hook) t)))
-    (dolist (hook sulgrevad--hooks) (remove-hook (car hook) (cadr hook) t))
-    (setq buffer-offer-save nil))
-  (kill-local-variable 'revert-buffer-function)
-  (setq buffer-read-only t sulgrevad--tag nil sulgrevad--is-locked nil)
-  (sulgrevad-mode -1))
-
-(defun sulgrevad--lose (why)
-  "The session is over here, because of WHY.
-What the host may not have is kept here."
-  (when sulgrevad--term
-    (let ((kept (condition-case nil (sulgrevad--keep-all) (error (sulgrevad--keep-modified)))) (line sulgrevad--line))
-      (setq sulgrevad--term nil sulgrevad--copies nil)
-      (dolist (hook sulgrevad--global-hooks) (remove-hook (car hook) (cadr hook)))
-      (advice-remove 'kill-emacs #'sulgrevad--leave)
-      (sulgrevad--each #'sulgrevad--let-go)
-      (sulgrevad-line-close line)
-      (setq sulgrevad--line nil sulgrevad--inbox nil)
-      (if kept
-          (display-warning 'sulgrevad (string-join (cons (concat "Sulgrevad: " why) kept) "; ")) ; it stays, whatever is said next
-        (message "Sulgrevad: %s" why)))))
-
-(defun sulgrevad--pump (&optional is-pausing)
-  "Hand edits over, take in what has come, and send what is pending.
-With IS-PAUSING what was typed is sent, too."
-  (unless (or sulgrevad--is-pumping (null sulgrevad--term))
-    (condition-case why
-        (let ((sulgrevad--is-pumping t) (has-come t))
-          (while (and sulgrevad--term (or has-come sulgrevad--inbox)) ; more may come meanwhile, or the host may end
-            (sulgrevad--each #'sulgrevad--hand-over)
-            (let ((inhibit-quit t))     ; no edit comes between
-              (unwind-protect (setq has-come (sulgrevad--take-in))
-                (when sulgrevad--term (sulgrevad--each #'sulgrevad--take-over))))
-            (when sulgrevad--term
-              (sulgrevad--report-refusals)
-              (sulgrevad--load-more)
-              (sulgrevad--write-next)
-              (when is-pausing (sulgrevad--flush-now sulgrevad--term))
-              (sulgrevad--send)
-              (sulgrevad--expect)
-              (sulgrevad--keep-meanwhile))))
-      (sulgrevad-no-memory (message "Sulgrevad: %s" (cadr why))
-                           (sulgrevad--pump-after sulgrevad-retry))
-      (sulgrevad-error (sulgrevad--lose (cadr why)))
-      (error (message "Sulgrevad: %s" (error-message-string why)))))) ; a hook that signals one is not called again
-
-(defun sulgrevad--take-in ()
-  "Take in what has come, and go on step by step.
-Return whether anything was done.  Where memory is out, what is left of
-it stays the first."
-  (let ((has-come (sulgrevad--go-on)))
-    (while (and sulgrevad--term sulgrevad--inbox)
-      (let ((item (car sulgrevad--inbox)))
-        (when (stringp item) (sulgrevad--bring sulgrevad--term item))
-        (pop sulgrevad--inbox)
-        (setq has-come t)
-        (pcase item
-          (`(note . ,note) (sulgrevad--meet note))
-          (`(lost . ,why) (sulgrevad--lose why))
-          (_ (sulgrevad--go-on)))))
-    has-come))
-
-(defun sulgrevad--go-on ()
-  "Go on step by step until nothing waits, and do as each has told.
-Return whether there was any."
-  (let (did has-come)
-    (while (setq did (sulgrevad--step sulgrevad--term))
-      (setq has-come t)
-      (pcase-let* ((`(,_ ,_ ,tag ,start ,gone ,came) did) (buffer (and (< 0 (+ gone came)) (sulgrevad--buffer-of tag))))
-        (when buffer (with-current-buffer buffer (sulgrevad--note-change start gone came)))))
-    has-come))
-
-(defun sulgrevad--report-refusals ()
-  "Say why events were refused."
-  (let (why)
-    (while (setq why (sulgrevad--next-refusal sulgrevad--term)) (message "Sulgrevad: %s" why))))
-
-(defun sulgrevad--send ()
-  "Put what is pending into the line."
-  (let ((inhibit-quit t) bytes)         ; what was taken out is nowhere else
-    (while (and sulgrevad--term (not (string-empty-p (setq bytes (sulgrevad--take-out sulgrevad--term)))))
-      (sulgrevad-line-put sulgrevad--line bytes))))
-
-(defun sulgrevad--receive (event what)
-  "An EVENT of `sulgrevad-line-make' has come, and WHAT."
-  (pcase event
-    ('bytes (setq sulgrevad--inbox (nconc sulgrevad--inbox (list what))))
-    ((or 'note 'lost) (setq sulgrevad--inbox (nconc sulgrevad--inbox (list (cons event what)))))
-    ('told (sulgrevad--note-told what)
-           (message "%s" what))
-    ('state (force-mode-line-update t)))
-  (sulgrevad--pump))
-
-(defun sulgrevad--is-answer-due ()
-  "Whether an answer of the host is waited for, by a command or a lock."
-  (or sulgrevad--is-waiting
-      (sulgrevad--command-locked sulgrevad--term)
-      (< 0 (sulgrevad--held sulgrevad--term))
-      (cl-loop for buffer in sulgrevad--buffers
-               for tag = (and (buffer-live-p buffer) (buffer-local-value 'sulgrevad--tag buffer))
-               thereis (and tag (sulgrevad--locked sulgrevad--term tag)))))
-
-(defun sulgrevad--expect ()
-  "Have the line know whether an answer is waited for."
-  (when sulgrevad--term (sulgrevad-line-expect sulgrevad--line (and (sulgrevad--is-answer-due) t))))
-
-(defun sulgrevad--meet (note)
-  "Do as a NOTE of the host has told."
-  (let ((text (sulgrevad-note-text note)))
-    (unless (string-empty-p text) (sulgrevad--note-told text))
-    (pcase (sulgrevad-note-kind note)
-      ((or 'names 'opened 'refused) (push (cons (sulgrevad-note-request note) note) sulgrevad--answers))
-      ('shown (setq sulgrevad--wishes
-                    (append sulgrevad--wishes (list (cons (sulgrevad-note-tag note) (sulgrevad-note-number note)))))
-              (run-with-idle-timer sulgrevad-rest nil #'sulgrevad--show-wished))
-      ('not-saved (sulgrevad--meet-failure note))
-      ('anew (when (< (sulgrevad-note-number note) sulgrevad-all-tags) (puthash (sulgrevad-note-number note) t sulgrevad--hidden)))
-      ('lost (display-warning 'sulgrevad (concat "samhost: " text) :error)) ; in a buffer that stays
-      ((guard (not (or (string-empty-p text) (sulgrevad--is-plain-save note)))) (message "samhost: %s" text)))))
-
-(defun sulgrevad--is-plain-save (note)
-  "Whether NOTE is of a write that replaced nobody's text."
-  (and (eq 'saved (sulgrevad-note-kind note)) (= 0 (sulgrevad-note-code note))))
-
-(defun sulgrevad--meet-failure (note)
-  "Keep in mind why a write failed, as NOTE has it."
-  (let ((tag (sulgrevad-note-tag note)))
-    (push (cons tag (cons note (sulgrevad--name sulgrevad--term tag))) sulgrevad--complaints)
-    (unless (eql tag sulgrevad--writing) (message "samhost: %s" (sulgrevad-note-text note)))))
-
-(defun sulgrevad--note-told (told)
-  "Note what was TOLD, for an error that may come."
-  (setq sulgrevad--told (seq-take (cons told sulgrevad--told) sulgrevad-most-told)))
-
-(defun sulgrevad--is-late ()
-  "Whether the line is lost, or an answer of the host is late."
-  (or (null sulgrevad--line) (sulgrevad-line-is-late sulgrevad--line)))
-
-(defun sulgrevad--load-more ()
-  "Have the host send what is not loaded of the files that have buffers.
-Not while the line is lost, since that would lock them until it is back.
-What is loaded whole is shown no longer: the terminal would else ask for
-one gap after the other where a command line brings many."
-  (unless (sulgrevad--is-late)
-    (sulgrevad--each
-     (lambda ()
-       (when (and (sulgrevad--is-open sulgrevad--term sulgrevad--tag)
-                  (= 0 (sulgrevad--held sulgrevad--term))
-                  (not (sulgrevad--locked sulgrevad--term sulgrevad--tag)))
-         (let ((gap (sulgrevad--first-gap sulgrevad--term sulgrevad--tag)))
-           (cond (gap (setq sulgrevad--is-asking t)
-                      (sulgrevad--load sulgrevad--term sulgrevad--tag gap sulgrevad-most-load))
-                 (sulgrevad--is-asking
-                  (setq sulgrevad--is-asking nil)
-                  (sulgrevad--view sulgrevad--term sulgrevad--tag 0 0)))))))))
-
-;;; Waiting
-
-(defun sulgrevad--wait (is-there &optional most tell)
-  "Take in and send until IS-THERE is non-nil, and return what that is.
-Give up where the session is over; after MOST seconds where that is a
-number; where it is nil, once the host is silent for
-`sulgrevad-patience'.  Meanwhile TELL is called now and then."
-  (let ((begun (float-time)) (told (float-time)) found)
-    (unwind-protect
-        (let ((sulgrevad--is-waiting t))
-          (sulgrevad--pump t)
-          (while (and sulgrevad--term (not (setq found (funcall is-there))) (not sulgrevad--is-pumping)
-                      (sulgrevad--has-patience most begun))
-            (when (sulgrevad-line-question sulgrevad--line) (sulgrevad-line-answer sulgrevad--line))
-            (accept-process-output nil 0.05)
-            (when (<= (+ told sulgrevad-untold) (float-time))
-              (setq told (float-time))
-              (funcall (or tell #'sulgrevad--tell-of-waiting)))
-            (sulgrevad--pump t))
-          found)
-      (sulgrevad--expect))))
-
-(defun sulgrevad--has-patience (most begun)
-  "Whether to wait on, for MOST as `sulgrevad--wait' has it, since BEGUN."
-  (let ((silence (sulgrevad-line-silence sulgrevad--line)))
-    (cond ((numberp most) (< (float-time) (+ begun most)))
-          (most (or (not noninteractive) (< silence sulgrevad-most-silent)))
-          (t (< silence sulgrevad-patience)))))
-
-(defun sulgrevad--tell-of-waiting ()
-  "Say that something waits for the host."
-  (let ((state (and sulgrevad--line (sulgrevad-line-told-state sulgrevad--line))) (message-log-max nil))
-    (message "Waiting for the host%s; C-g stops" (if state (format " (%s)" state) ""))))
-
-(defun sulgrevad--before-command ()
-  "Wait until the buffer may be edited, so that no key is lost.
-A buffer that shares its text may, too.  Of a host that is silent no
-answer is waited for: the buffer is read-only then."
-  (with-current-buffer (or (buffer-base-buffer) (current-buffer))
-    (when (and (sulgrevad--is-ours) (/= sulgrevad--tag 0) (not (sulgrevad--is-free)))
-      (with-local-quit (sulgrevad--wait #'sulgrevad--is-free)))))
-
-(defun sulgrevad--after-command ()
-  "Send what the command did, typed text too where no other key waits."
-  (sulgrevad--pump (not (input-pending-p))))
-
-(defun sulgrevad--settle (what)
-  "Wait until each edit is handed over and more may be made.
-WHAT is to be done needs that."
-  (unless (sulgrevad--is-ours) (user-error "The buffer is not that of a file of the session"))
-  (unless (sulgrevad--wait (lambda () (and (sulgrevad--is-free) (not (sulgrevad--waits)) (not (sulgrevad--is-late)))))
-    (sulgrevad--refuse what)))
-
-(defun sulgrevad--refuse (what)
-  "Say that WHAT needs a host that answers."
-  (user-error "%s needs the host, which does not answer%s" what
-              (let ((state (and sulgrevad--line (sulgrevad-line-told-state sulgrevad--line)))) (if state (format " (%s)" state) ""))))
-
-(defun sulgrevad--need-host (what)
-  "Refuse WHAT where there is no session, or its host does not answer."
-  (unless sulgrevad--term (user-error "There is no session; M-x sulgrevad-start begins one"))
-  (unless (sulgrevad--wait (lambda () (not (sulgrevad--is-late)))) (sulgrevad--refuse what)))
+    (if state (format " Sam[%s]" state) " Sam")))
 
 ;;; Sessions
 
@@ -326,17 +61,17 @@ WHAT is to be done needs that."
   "Begin a session with a host of COMMAND and WORDS after it.
 WORDS is a function of the session's name.  TAKES-OVER says that it was
 another terminal's."
-  (when sulgrevad--term (user-error "There is a session already"))
-  (setq sulgrevad--inbox nil sulgrevad--buffers nil sulgrevad--told nil sulgrevad--writes nil sulgrevad--writing nil
-        sulgrevad--complaints nil sulgrevad--hidden (make-hash-table) sulgrevad--answers nil sulgrevad--wishes nil sulgrevad--copies nil
-        sulgrevad--folder default-directory)
+  (when sulgrevad--client (user-error "There is a session already"))
+  (setq sulgrevad--buffers nil sulgrevad--loads nil sulgrevad--told nil sulgrevad--complaints nil
+        sulgrevad--hidden nil sulgrevad--answers nil sulgrevad--wishes nil sulgrevad--copies nil sulgrevad--ended-with nil
+        sulgrevad--is-named nil sulgrevad--is-taken nil sulgrevad--folder default-directory)
   (let (line)
     (setq line (sulgrevad-line-make
-                command (lambda (event what) (when (eq line sulgrevad--line) (sulgrevad--receive event what))) takes-over)
+                command (lambda (event what) (when (eq line sulgrevad--line) (sulgrevad--hear event what))) takes-over)
           sulgrevad--line line
-          sulgrevad--term (sulgrevad--make))
+          sulgrevad--client (sulgrevad-line-client line))
     (condition-case why (sulgrevad-line-connect line (funcall words (sulgrevad-line-name line)) t)
-      ((error quit) (setq sulgrevad--term nil sulgrevad--line nil)
+      ((error quit) (setq sulgrevad--client nil sulgrevad--line nil)
                     (signal (car why) (cdr why))))
     (dolist (hook sulgrevad--global-hooks) (add-hook (car hook) (cadr hook)))
     (advice-add 'kill-emacs :before #'sulgrevad--leave)
@@ -346,9 +81,9 @@ another terminal's."
 
 (defun sulgrevad--await-names ()
   "Wait until the host has told the names of the session's files."
-  (sulgrevad--offer-version sulgrevad--term sulgrevad-version-offered)
-  (sulgrevad--open-cmd sulgrevad--term)
-  (unless (sulgrevad--wait (lambda () (and (sulgrevad--is-open sulgrevad--term 0) (not (sulgrevad--command-locked sulgrevad--term)))) t)
+  (sulgrevad--ask 'offer-version 0 0 sulgrevad-version-offered)
+  (sulgrevad--ask 'open-cmd)
+  (unless (sulgrevad--wait (lambda () (and (sulgrevad-file-is-open (sulgrevad--file 0)) (sulgrevad--is-idle))) t)
     (user-error "The host is gone: %s" (string-join (reverse sulgrevad--told) "; "))))
 
 (defun sulgrevad--show-first ()
@@ -392,7 +127,7 @@ files were not written; undo doesn't."
 (defun sulgrevad-reconnect ()
   "Try a lost line now.  Here ssh may ask for a password."
   (interactive)
-  (unless sulgrevad--term (user-error "There is no session"))
+  (unless sulgrevad--client (user-error "There is no session"))
   (when (or (sulgrevad--is-late) (not (sulgrevad-line-is-open sulgrevad--line)))
     (sulgrevad-line-connect-again sulgrevad--line t)
     (if (sulgrevad--wait (lambda () (sulgrevad-line-is-open sulgrevad--line)) t)
@@ -402,12 +137,282 @@ files were not written; undo doesn't."
 (defun sulgrevad-quit ()
   "End the session; ask first where a file was not written."
   (interactive)
-  (unless sulgrevad--term (user-error "There is no session"))
+  (unless sulgrevad--client (user-error "There is no session"))
   (when (sulgrevad--may-end)
     (let ((buffers sulgrevad--buffers))
       (sulgrevad--leave)
       (dolist (buffer buffers)
         (when (and (buffer-live-p buffer) (not (buffer-local-value 'sulgrevad--has-drifted buffer))) (kill-buffer buffer))))))
+
+;;; Files
+
+(defun sulgrevad--left-buffer (name)
+  "The buffer of the file NAME that is left of an earlier session, or nil.
+Not one whose text stands nowhere else."
+  (cl-find-if (lambda (buffer)
+                (with-current-buffer buffer
+                  (and (eq sulgrevad--self buffer) (null sulgrevad--tag) (equal sulgrevad--path name) (not sulgrevad--has-drifted))))
+              (buffer-list)))
+
+(defun sulgrevad--show (tag)
+  "The buffer of the file TAG, which is opened and loaded where it is not."
+  (or (sulgrevad--buffer-of tag)
+      (let ((name (sulgrevad-client-name sulgrevad--client tag)))
+        (sulgrevad--await-whole tag (sulgrevad--base name))
+        (with-current-buffer (or (sulgrevad--left-buffer name) (generate-new-buffer (sulgrevad--base name)))
+          (sulgrevad--fill tag name)
+          (goto-char (point-min))
+          (current-buffer)))))
+
+(defun sulgrevad--fill (tag name)
+  "Have the buffer become that of the file TAG, which has this NAME and is loaded."
+  (setq sulgrevad--tag tag
+        sulgrevad--path name
+        list-buffers-directory name
+        sulgrevad--self (current-buffer))
+  (sulgrevad--put-all)
+  (setq buffer-read-only nil
+        buffer-undo-list nil
+        sulgrevad--host-changes nil
+        sulgrevad--has-drifted nil
+        sulgrevad--tick (buffer-chars-modified-tick))
+  (cl-pushnew (current-buffer) sulgrevad--buffers)
+  (sulgrevad--hook-up)
+  (sulgrevad--set-mode name)
+  (setq buffer-offer-save 'always)      ; so C-x s asks
+  (setq-local revert-buffer-function #'sulgrevad--revert)
+  (sulgrevad-mode)
+  (sulgrevad--pump)
+  (sulgrevad--offer-left))
+
+(defun sulgrevad--await-whole (tag name)
+  "Load the file TAG of this NAME, and say how far that is.  \\[keyboard-quit] stops it."
+  (unless (sulgrevad-file-is-open (sulgrevad--file tag)) (sulgrevad--ask 'open tag))
+  (sulgrevad--want-whole tag)
+  (let* ((reporter nil)
+         (tell (lambda ()
+                 (unless reporter (setq reporter (make-progress-reporter (format "Loading %s..." name) 0 100)))
+                 (let ((state (and sulgrevad--line (sulgrevad-line-told-state sulgrevad--line))))
+                   (progress-reporter-force-update reporter (sulgrevad--percent tag) nil (and state (format "%s; C-g stops" state)))))))
+    (unless (sulgrevad--wait (lambda () (null (assq tag sulgrevad--loads))) t tell)
+      (error "%s is not loaded: the host does not answer" name))
+    (when reporter (progress-reporter-done reporter))))
+
+(defun sulgrevad--percent (tag)
+  "How much of the file TAG is loaded."
+  (let ((len (if sulgrevad--client (sulgrevad-file-len (sulgrevad--file tag)) 0)))
+    (if (= 0 len) 0 (/ (* 100 (or (sulgrevad-client-first-gap sulgrevad--client tag) len)) len))))
+
+(defun sulgrevad--set-mode (name)
+  "Choose the major mode for the file NAME.
+Its hooks run where no file is visited: that of this path is elsewhere."
+  (delay-mode-hooks
+    (let ((buffer-file-name name)) (set-auto-mode)))
+  (run-mode-hooks))
+
+(defun sulgrevad--question (kind path)
+  "Ask the host by a request of KIND about PATH, and return its answer."
+  (let ((number (cl-incf sulgrevad--number)) (bytes (decode-coding-string (encode-coding-string path 'utf-8) 'latin-1)))
+    (sulgrevad-client-put-request sulgrevad--client kind number bytes (sulgrevad-line--now))
+    (when (eq kind 'open) (sulgrevad--ask 'offer-version 0 0 sulgrevad-version-offered))
+    (prog1 (or (sulgrevad--wait (lambda () (cdr (assq number sulgrevad--answers))))
+               (sulgrevad--refuse "That"))
+      (setq sulgrevad--answers (assq-delete-all number sulgrevad--answers)))))
+
+(defun sulgrevad--is-named (tag)
+  "Whether the host has told the name of the file TAG, and all others."
+  (and (sulgrevad-file-is-known (sulgrevad--file tag)) (sulgrevad--is-idle)))
+
+(defun sulgrevad--open-path (path)
+  "Have the host open PATH.  Return its tag."
+  (let* ((answer (sulgrevad--question 'open path)) (tag (sulgrevad-note-tag answer)))
+    (cond ((eq 'opened (sulgrevad-note-kind answer))
+           (unless (sulgrevad--wait (lambda () (sulgrevad--is-named tag))) (sulgrevad--refuse "That"))
+           tag)
+          ((= sulgrevad--is-folder (sulgrevad-note-code answer)) (user-error "%s is a folder" path))
+          (t (user-error "%s is not opened: %s" path (sulgrevad-note-text answer))))))
+
+;;;###autoload
+(defun sulgrevad-find-file (path)
+  "Show the file at PATH of the session's host, which may be new.
+A path is seen from the folder in which samhost runs.  With a prefix
+argument, read a file name of this machine."
+  (interactive
+   (if current-prefix-arg (list nil)
+     (sulgrevad--need-host "That")
+     (list (sulgrevad--read-path "Find file at the host: "))))
+  (if (null path) (call-interactively #'find-file)
+    (sulgrevad--need-host "That")
+    (switch-to-buffer (sulgrevad--show (sulgrevad--open-path (sulgrevad--plain path))))))
+
+(defun sulgrevad-find (name)
+  "Show the file NAME of the session."
+  (interactive (progn (unless sulgrevad--client (user-error "There is no session"))
+                      (list (completing-read "File of the session: " (sulgrevad--names) nil t))))
+  (let ((tag (cdr (assoc name (sulgrevad--names)))))
+    (unless tag (user-error "The session has no file %s" name))
+    (unless (sulgrevad--buffer-of tag) (sulgrevad--need-host "That"))
+    (switch-to-buffer (sulgrevad--show tag))))
+
+(defun sulgrevad-close (&optional kills)
+  "Close the buffer's file for good, and kill the buffer.
+\"samhost --open --wait\" waits for that.  With KILLS don't ask."
+  (interactive)
+  (sulgrevad--settle "That")
+  (when (or kills (not (sulgrevad-file-is-unsaved (sulgrevad--file sulgrevad--tag)))
+            (yes-or-no-p (format "%s was not written; close it all the same? " (buffer-name))))
+    (sulgrevad--ask 'close sulgrevad--tag)
+    (sulgrevad--let-go)
+    (kill-buffer)
+    (sulgrevad--pump)))
+
+(defun sulgrevad--show-wished ()
+  "Show the files that somebody wishes shown, as samhost --open does."
+  (when (and sulgrevad--wishes sulgrevad--client (not (sulgrevad--is-late)) (not (active-minibuffer-window)))
+    (pcase-let ((`(,tag . ,line) (pop sulgrevad--wishes)))
+      (unless (sulgrevad-file-is-known (sulgrevad--file tag)) (sulgrevad--ask 'offer-version 0 0 sulgrevad-version-offered))
+      (when (sulgrevad--wait (lambda () (sulgrevad--is-named tag)))
+        (pop-to-buffer (sulgrevad--show tag))
+        (when (< 0 line)
+          (goto-char (point-min))
+          (forward-line (1- line)))))))
+
+(defun sulgrevad--revert (_ignore-auto noconfirm)
+  "Read the buffer's file anew, after a question unless NOCONFIRM.
+The host closes it and opens it again; what was not written is saved
+there first."
+  (sulgrevad--settle "That")
+  (let ((path sulgrevad--path) (tag sulgrevad--tag) (place (point)))
+    (when (string-prefix-p "…" path) (user-error "Only the end of its path is known"))
+    (when (or noconfirm
+              (yes-or-no-p (format "Read %s anew at the host%s? " path (if (buffer-modified-p) ", and drop its changes" ""))))
+      (sulgrevad--ask 'close tag)
+      (sulgrevad--let-go)
+      (sulgrevad--wait (lambda () (not (sulgrevad-file-is-known (sulgrevad--file tag)))))
+      (let ((tag (sulgrevad--open-path path)))
+        (sulgrevad--await-whole tag (buffer-name))
+        (sulgrevad--fill tag path))
+      (goto-char (min place (point-max))))))
+
+;;; Paths
+
+(defun sulgrevad--plain (path)
+  "PATH without what stands before an absolute one, as \"src//etc/motd\"."
+  (if (string-match ".*/\\(/\\)" path) (substring path (match-beginning 1)) path))
+
+(defun sulgrevad--read-path (prompt)
+  "Read a path at the host, with completion, after PROMPT."
+  (let ((known nil))
+    (completing-read prompt
+                     (lambda (string predicate action)
+                       (sulgrevad--complete string predicate action
+                                            (lambda (path)
+                                              (cdr (or (assoc path known)
+                                                       (car (push (cons path (sulgrevad--names-at path)) known)))))))
+                     nil nil
+                     (and sulgrevad--path (file-name-directory sulgrevad--path))
+                     'sulgrevad--paths)))
+
+(defun sulgrevad--complete (string predicate action names-at)
+  "Complete the path STRING, with PREDICATE and ACTION as for any table.
+NAMES-AT gives the names that complete a path, without their folder."
+  (let* ((path (sulgrevad--plain string))
+         (front (- (length string) (length path)))
+         (start (+ front (length (or (file-name-directory path) "")))))
+    (pcase action
+      ('metadata nil)
+      (`(boundaries . ,suffix) `(boundaries ,start . ,(or (string-search "/" suffix) (length suffix))))
+      (_ (let ((found (complete-with-action action (funcall names-at path) (substring string start) predicate)))
+           (if (stringp found) (concat (substring string 0 start) found) found))))))
+
+(defun sulgrevad--names-at (path)
+  "The names at the host that complete PATH; those of folders end in a slash."
+  (let ((answer (and sulgrevad--client (not (sulgrevad--is-late)) (sulgrevad--question 'complete path))))
+    (and answer (split-string (decode-coding-string (sulgrevad-note-path answer) 'utf-8) "\n" t))))
+
+;;; Command lines
+
+(defun sulgrevad-command (line)
+  "Run a command LINE of sam on the buffer and its region.
+Return what it prints, which the buffer *sam* has, too."
+  (interactive "sCommand: ")
+  (sulgrevad--settle "A command line")
+  (let* ((tag sulgrevad--tag) (tick (buffer-chars-modified-tick)) (from (sulgrevad--type-line line)) (printed nil))
+    (when (sulgrevad--wait (lambda () (and (sulgrevad--is-answered tag) (sulgrevad--is-answered 0))) t)
+      (setq printed (sulgrevad--shown 0 (min from (sulgrevad-file-len (sulgrevad--file 0)))))
+      (with-current-buffer (get-buffer-create "*sam*")
+        (goto-char (point-max))
+        (insert line "\n" printed))
+      (when sulgrevad--tag
+        (let* ((file (sulgrevad--file tag)) (start (sulgrevad-file-dot-start file)) (end (sulgrevad-file-dot-end file)))
+          (push-mark (1+ start) t (< start end))
+          (unless (eql tick (buffer-chars-modified-tick)) (deactivate-mark)) ; as after any edit
+          (goto-char (1+ end))))
+      (unless (string-empty-p printed) (message "%s" printed)))
+    (or printed "")))
+
+(defun sulgrevad--type-line (line)
+  "Have the host run the command LINE on the buffer and its region.
+Return the place in the command file behind it."
+  (let* ((typed (concat line "\n")) (old (sulgrevad--shown 0)) (from (1+ (or (cl-position ?\n old :from-end t) -1))))
+    (when (< sulgrevad-most-runes (+ from (length typed))) (user-error "The command file has no room for so long a line"))
+    (sulgrevad--ask 'select sulgrevad--tag
+                    (1- (if (use-region-p) (region-beginning) (point))) (1- (if (use-region-p) (region-end) (point))))
+    (sulgrevad--ask 'work sulgrevad--tag)
+    (sulgrevad--ask 'select 0 from (length old))
+    (dolist (part (seq-partition typed sulgrevad-most-typed))
+      (sulgrevad--ask 'type-cmd 0 0 0 part)
+      (sulgrevad--pump))                ; so many requests don't wait at once
+    (sulgrevad--want-whole 0)
+    (+ from (length typed))))
+
+;;; Writing
+
+(defun sulgrevad-save ()
+  "Have the host write the buffer's file, and wait until it has.
+Where it does not answer, the file is written once it does.  Ask first
+where that would replace what another program has written."
+  (interactive)
+  (unless (sulgrevad--is-ours) (user-error "The buffer is not that of a file of the session"))
+  (let ((tag sulgrevad--tag))
+    (when (sulgrevad--may-replace tag)
+      (sulgrevad--hand-over t)
+      (sulgrevad--ask 'write tag)
+      (setq sulgrevad--complaints (assq-delete-all tag sulgrevad--complaints))
+      (cond ((not (sulgrevad--wait (lambda () (sulgrevad--is-answered tag))))
+             (message "The host writes %s once it answers%s" (buffer-name) (sulgrevad--in-words)))
+            ((sulgrevad--replaced tag) (sulgrevad-save))))))
+
+(defun sulgrevad--replaced (tag)
+  "Why the next write of the file TAG would replace another program's text.
+nil where that is not known, or nobody is there who may be asked."
+  (pcase (and sulgrevad--client (not noninteractive) (cdr (assq tag sulgrevad--complaints)))
+    (`(,note . ,name) (and (equal name (sulgrevad-client-name sulgrevad--client tag)) ; else it was told of another file
+                           (cdr (assq (sulgrevad-note-code note) sulgrevad--replacing))))))
+
+(defun sulgrevad--may-replace (tag)
+  "Whether the file TAG may be written.
+It would replace no other program's text, or the user says so."
+  (let ((why (sulgrevad--replaced tag)))
+    (or (null why) (yes-or-no-p (format "%s: %s; replace it? " (buffer-name) why)))))
+
+(defun sulgrevad--write-contents ()
+  "Have the host write the buffer, for `save-buffer'."
+  (sulgrevad-save)
+  t)
+
+(defun sulgrevad-write-file (path)
+  "Have the host write the buffer to PATH, which becomes the file's name."
+  (interactive (progn (sulgrevad--settle "That")
+                      (list (sulgrevad--read-path "Write file at the host: "))))
+  (let* ((plain (sulgrevad--plain path))
+         (path (if (string-suffix-p "/" plain) (concat plain (sulgrevad--base sulgrevad--path)) plain))
+         (printed (if (or (string-empty-p path) (string-search "\n" path)) "the name is wrong"
+                    (save-mark-and-excursion (sulgrevad-command (concat "f " path))))))
+    (unless (equal (sulgrevad-client-name sulgrevad--client sulgrevad--tag) path)
+      (user-error "The file can't be called %s: %s" path (string-trim printed)))
+    (sulgrevad--set-mode path)
+    (sulgrevad-save)))
 
 (provide 'sulgrevad)
 ;;; sulgrevad.el ends here

@@ -9,12 +9,20 @@
     (princ (format "FAIL %s %S\n" name more))))
 
 (defun same (name)
-  "The terminal has the buffer's text."
+  "The client has the buffer's text."
   (check name (equal (theirs) (sulgrevad--text)) (theirs) (sulgrevad--text)))
 
 (defun theirs ()
-  "The whole text that the terminal has."
-  (sulgrevad--part sulgrevad--term sulgrevad--tag 0 (sulgrevad--len sulgrevad--term sulgrevad--tag)))
+  "The whole text that the client shows."
+  (substring-no-properties (sulgrevad--shown sulgrevad--tag)))
+
+(defun is-answered ()
+  "Whether the buffer's file is free, and all of it is loaded."
+  (sulgrevad--is-answered sulgrevad--tag))
+
+(defun is-sent ()
+  "Whether the host has all."
+  (sulgrevad-line-has-all sulgrevad--line))
 
 (defun keys (text)
   "Press keys, with the hooks that a command has."
@@ -73,7 +81,7 @@
 (defun lose-host ()
   "Kill the host, and wait until that is known."
   (kill-host)
-  (wait-for (lambda () (null sulgrevad--term))))
+  (wait-for (lambda () (null sulgrevad--client))))
 
 ;; The library's times are seconds and more: the checks skip them.
 
@@ -83,17 +91,21 @@
 (defun skip (milliseconds)
   "Have so many MILLISECONDS be over for the line."
   (setq skipped (+ skipped milliseconds))
-  (sulgrevad-line--go-on sulgrevad--line))
+  (sulgrevad-line--on-time sulgrevad--line))
 
 (defun skip-pause ()
   "Skip the pause of a line that waits for its next connection."
   (let ((line sulgrevad--line))
     (when (and skips-pauses line (null (sulgrevad-line-why line)) (null (sulgrevad-line-process line)))
-      (skip (or (sulgrevad--line-due-in (sulgrevad-line-machine line) (sulgrevad-line--now)) 0)))))
+      (skip (or (sulgrevad-client-due-in (sulgrevad-line-client line) (sulgrevad-line--now)) 0)))))
 
 (defun process ()
   "The process that carries the session's bytes."
   (sulgrevad-line-process sulgrevad--line))
+
+(defvar attempts 0 "How many connections of the session were made.")
+(advice-add 'sulgrevad-client-make :after (lambda (&rest _) (setq attempts 0)))
+(advice-add 'sulgrevad-client-connected :after (lambda (&rest _) (setq attempts (1+ attempts))))
 
 (defun begin (folder)
   "Have FOLDER be where the sessions begin and temporary files are.  A session of a killed Emacs stays but for a minute."

@@ -1,0 +1,322 @@
+;;; sulgrevad-session.el --- what a session does by itself  -*- lexical-binding: t -*-
+
+;;; Commentary:
+
+;; The client goes on, what it tells is done, and what it has for the host is sent: after each command, when bytes come, and by a clock.
+
+;;; Code:
+
+(require 'cl-lib)
+(require 'subr-x)
+(require 'sulgrevad-buffer)
+(require 'sulgrevad-line)
+
+(declare-function sulgrevad--keep-all "sulgrevad-copies" ())
+(declare-function sulgrevad--keep-meanwhile "sulgrevad-copies" ())
+(declare-function sulgrevad--keep-modified "sulgrevad-copies" ())
+(declare-function sulgrevad--leave "sulgrevad-copies" (&rest _))
+(declare-function sulgrevad--show-wished "sulgrevad" ())
+
+(defgroup sulgrevad nil
+  "Edit files that lie behind samhost."
+  :group 'files
+  :prefix "sulgrevad-")
+
+(defcustom sulgrevad-command "samhost"
+  "The command that runs samhost, as \"ssh box samhost\"."
+  :type 'string)
+
+(defcustom sulgrevad-stay-hours nil
+  "For how many hours a session stays at the host that is alone.
+nil is samhost's own choice."
+  :type '(choice (const :tag "As samhost chooses" nil) number))
+
+(defcustom sulgrevad-patience 3
+  "For how many seconds a command waits for a host that is silent."
+  :type 'number)
+
+(defconst sulgrevad-all-tags 65536 "How many tags a session has at most.")
+(defconst sulgrevad-most-load 262144 "How many runes are loaded at once.")
+(defconst sulgrevad-most-told 10 "How many lines of what was told are noted.")
+(defconst sulgrevad-most-kept 100 "How many answers and wishes are noted.")
+(defconst sulgrevad-most-unsent 0.5 "After how many seconds an edit is sent that no command has made.")
+(defconst sulgrevad-most-silent 60 "For how many seconds a batch Emacs waits for a host that is silent.")
+(defconst sulgrevad-untold 0.5 "For how many seconds at most nothing is said of what takes its time.")
+(defconst sulgrevad-rest 1 "How many seconds the user rests before a file comes up by itself.")
+(defconst sulgrevad--messages 1 "The version of the session's messages.")
+(defconst sulgrevad--name-form "\\`[0-9a-f]\\{16\\}\\'"
+  "What the name of a session is like.
+The host says it, and it becomes a word of a command.")
+
+(defvar sulgrevad--line nil "The line to the host.")
+(defvar sulgrevad--told nil "What was told last, the last first.")
+(defvar sulgrevad--complaints nil
+  "What the host told of files whose last write failed.
+Of each its tag, and in a pair the note and the name that it had.")
+(defvar sulgrevad--hidden nil "Tags of files that the host keeps for terminals.")
+(defvar sulgrevad--answers nil "Answers of the host, in pairs with the numbers of the questions.")
+(defvar sulgrevad--wishes nil "Files that somebody wishes shown: a tag and a line each.")
+(defvar sulgrevad--ended-with nil "The status with which the session has ended.")
+(defvar sulgrevad--is-named nil "Whether the host has said the first message.")
+(defvar sulgrevad--is-taken nil "Whether another terminal has the session.")
+(defvar sulgrevad--timer nil "What sends edits that no command has made, or nil.")
+(defvar sulgrevad--is-pumping nil "Whether the client goes on.")
+(defvar sulgrevad--is-waiting nil "Whether a command waits for the host.")
+
+(defconst sulgrevad--global-hooks
+  '((post-command-hook sulgrevad--pump) (kill-emacs-query-functions sulgrevad--may-end) (kill-emacs-hook sulgrevad--break-off))
+  "What is called while there is a session, with the hooks that call it.")
+
+(cl-defstruct (sulgrevad-note (:type list) (:copier nil))
+  "A message of the session, by the table of SESSION.md; what its kind has not is 0 or empty."
+  kind                     ; a symbol
+  request tag code number  ; numbers
+  path copy                ; strings of bytes
+  text)                    ; words for people
+
+(defun sulgrevad--state ()
+  "How the client and its line are."
+  (sulgrevad-line-state sulgrevad--line))
+
+(defun sulgrevad--names ()
+  "The names of the user's files in the session, with their tags.
+The host tells which others it keeps for terminals, as for samterm's
+undo: saved, they would be written nowhere."
+  (cl-loop for tag from 1 below (sulgrevad-state-tags (sulgrevad--state))
+           for name = (sulgrevad-client-name sulgrevad--client tag)
+           when (and name (not (memq tag sulgrevad--hidden))) collect (cons name tag)))
+
+;;; Going on
+
+(defun sulgrevad--pump ()
+  "Have the client go on, do as it told, and send what it has."
+  (unless (or sulgrevad--is-pumping (null sulgrevad--client))
+    (condition-case why
+        (let ((sulgrevad--is-pumping t))
+          (while (and sulgrevad--client (progn (sulgrevad--hand-over-all) sulgrevad--client)
+                      (or (sulgrevad--go-on) (and sulgrevad--client (or (sulgrevad--drop) (sulgrevad--load-more))))))
+          (when sulgrevad--client
+            (let ((is-idle (sulgrevad--is-idle)))
+              (sulgrevad--each (lambda () (sulgrevad--update is-idle))))
+            (sulgrevad-client-expect sulgrevad--client (sulgrevad--is-answer-due) (sulgrevad-line--now))
+            (sulgrevad-line-push sulgrevad--line)
+            (sulgrevad--keep-meanwhile)))
+      (sulgrevad-no-memory (message "Sulgrevad: %s" (cadr why))
+                           (sulgrevad-line-push sulgrevad--line)
+                           (sulgrevad-line-retry sulgrevad--line))
+      (sulgrevad-error (sulgrevad--lose (cadr why)))
+      (error (message "Sulgrevad: %s" (error-message-string why)))))) ; a hook that signals one is not called again
+
+(defun sulgrevad--hand-over-all ()
+  "Give the client what it doesn't know of all buffers.
+Where memory is short for that, an edit that was given before may have to
+act first, by which no buffer changes."
+  (condition-case why (sulgrevad--each #'sulgrevad--hand-over)
+    (sulgrevad-no-memory
+     (unless (sulgrevad-state-is-acting (sulgrevad--state)) (signal (car why) (cdr why)))
+     (sulgrevad--go-on)
+     (sulgrevad--hand-over-all))))
+
+(defun sulgrevad--pump-after ()
+  "Send soon what a timer or a process of another edits.
+No command ends then."
+  (unless sulgrevad--timer
+    (setq sulgrevad--timer (run-with-timer sulgrevad-most-unsent nil (lambda ()
+                                                                       (setq sulgrevad--timer nil)
+                                                                       (sulgrevad--pump))))))
+
+(defun sulgrevad--go-on ()
+  "Have the client go on, and do as it told.
+Return whether there is something."
+  (let* ((inhibit-quit t)               ; no edit comes between, and nothing is half done
+         (told (sulgrevad-client-next-event sulgrevad--client (sulgrevad-line--now))))
+    (pcase told
+      (`(stepped . ,splices) (sulgrevad--take splices))
+      (`(refused ,why) (message "Sulgrevad: %s" why))
+      (`(note . ,note) (sulgrevad--meet note)))
+    told))
+
+(defun sulgrevad--drop ()
+  "Take back a text for which the host left no room.
+Return whether there is one.  The kill ring has it."
+  (let ((inhibit-quit t))
+    (pcase (sulgrevad-client-drop-next sulgrevad--client)
+      (`(,tag ,place ,count ,text)
+       (sulgrevad--kill-text text)
+       (message "Sulgrevad: %s has no room for what was put in; the kill ring has it" (sulgrevad-client-name sulgrevad--client tag))
+       (sulgrevad--take (list (list 'went tag place count)))
+       t))))
+
+(defun sulgrevad--load-more ()
+  "Have the host send more of the files that are to be whole.
+Not while an answer is late.  Return whether it was asked for something."
+  (let ((state (sulgrevad--state)))
+    (unless (or (sulgrevad--is-late) (< 0 (sulgrevad-state-waiting state)) (sulgrevad-state-has-exited state))
+      (cl-some #'sulgrevad--load-one sulgrevad--loads))))
+
+(defun sulgrevad--load-one (load)
+  "Have the host send more of a file, which LOAD in `sulgrevad--loads' names.
+Return whether it was asked for something.  What is loaded whole is shown
+no longer: the terminal would else ask for one gap after the other where
+a command line brings many."
+  (pcase-let* ((`(,tag . ,was-asked) load) (file (sulgrevad--file tag)) (gap (sulgrevad-client-first-gap sulgrevad--client tag)))
+    (cond ((and (sulgrevad-file-is-known file) (or (not (sulgrevad-file-is-open file)) (sulgrevad-file-is-locked file))) nil)
+          (gap (setcdr load t)
+               (sulgrevad--ask 'load tag gap sulgrevad-most-load)
+               t)
+          (t (setq sulgrevad--loads (delq load sulgrevad--loads))
+             (when (and was-asked (sulgrevad-file-is-open file))
+               (sulgrevad--ask 'view tag 0 0)
+               t)))))
+
+(defun sulgrevad--hear (event what)
+  "An EVENT of `sulgrevad-line-make' has come, and WHAT."
+  (pcase event
+    ('lost (sulgrevad--lose what))
+    ('told (sulgrevad--note-told what)
+           (message "%s" what))
+    ('state (force-mode-line-update t)))
+  (if sulgrevad--is-pumping (run-with-timer 0 nil #'sulgrevad--pump) ; it came while bytes were sent
+    (sulgrevad--pump)))
+
+(defun sulgrevad--is-idle ()
+  "Whether no request waits, and no command line is under way."
+  (let ((state (sulgrevad--state)))
+    (and (= 0 (sulgrevad-state-waiting state)) (not (sulgrevad-state-is-command-locked state)))))
+
+(defun sulgrevad--is-answered (tag)
+  "Whether nothing is under way, and all of the file TAG is here."
+  (and (sulgrevad--is-idle) (not (sulgrevad-file-is-locked (sulgrevad--file tag))) (null (assq tag sulgrevad--loads))))
+
+(defun sulgrevad--is-answer-due ()
+  "Whether an answer of the host is waited for, by a command or a lock."
+  (or sulgrevad--is-waiting
+      (not (sulgrevad--is-idle))
+      (cl-some (lambda (buffer) (sulgrevad-file-is-locked (sulgrevad--file (buffer-local-value 'sulgrevad--tag buffer))))
+               (cl-remove-if-not (lambda (buffer) (and (buffer-live-p buffer) (buffer-local-value 'sulgrevad--tag buffer)))
+                                sulgrevad--buffers))))
+
+(defun sulgrevad--is-late ()
+  "Whether the line is lost, or an answer of the host is late."
+  (or (null sulgrevad--line) (sulgrevad-line-is-late sulgrevad--line)))
+
+;;; What the host tells
+
+(defun sulgrevad--meet (note)
+  "Do as a NOTE of the host has told.
+One of a later version has no kind."
+  (let ((text (sulgrevad-note-text note)) (tag (sulgrevad-note-tag note)) (kind (sulgrevad-note-kind note)))
+    (unless (string-empty-p text) (sulgrevad--note-told text))
+    (pcase kind
+      ('session (sulgrevad--meet-name note))
+      ((guard (not sulgrevad--is-named)) (sulgrevad--lose "samhost there is of another version"))
+      ('ended (setq sulgrevad--ended-with (sulgrevad-note-number note))
+              (ignore-errors (sulgrevad-client-acknowledge sulgrevad--client)) ; so that the host need not wait
+              (sulgrevad-line-push sulgrevad--line)
+              (sulgrevad--lose "the session is over"))
+      ('taken-over (setq sulgrevad--is-taken t)
+                   (sulgrevad--lose (concat "another terminal has taken the session over: " text)))
+      ((or 'names 'opened 'refused)
+       (setq sulgrevad--answers (seq-take (cons (cons (sulgrevad-note-request note) note) sulgrevad--answers) sulgrevad-most-kept)))
+      ('shown (setq sulgrevad--wishes
+                    (seq-take (append sulgrevad--wishes (list (cons tag (sulgrevad-note-number note)))) sulgrevad-most-kept))
+              (run-with-idle-timer sulgrevad-rest nil #'sulgrevad--show-wished))
+      ('anew (when (< (sulgrevad-note-number note) sulgrevad-all-tags) (cl-pushnew (sulgrevad-note-number note) sulgrevad--hidden)))
+      ('lost (display-warning 'sulgrevad (concat "samhost: " text) :error)) ; in a buffer that stays
+      ((or 'saved 'not-saved) (sulgrevad--meet-written note))
+      ((guard (not (string-empty-p text))) (message "samhost: %s" text)))))
+
+(defun sulgrevad--meet-written (note)
+  "Say what became of a write, as NOTE has it, and keep in mind why it failed."
+  (let* ((tag (sulgrevad-note-tag note)) (name (sulgrevad-client-name sulgrevad--client tag))
+         (is-saved (eq 'saved (sulgrevad-note-kind note))))
+    (setq sulgrevad--complaints (assq-delete-all tag sulgrevad--complaints))
+    (unless is-saved (push (cons tag (cons note name)) sulgrevad--complaints))
+    (cond ((not is-saved) (message "samhost: %s" (sulgrevad-note-text note)))
+          ((= 0 (sulgrevad-note-code note)) (message "The host has written %s" (or name "the file")))
+          (t (message "The host has written %s: %s" (or name "the file") (sulgrevad-note-text note))))))
+
+(defun sulgrevad--meet-name (note)
+  "The first NOTE has come, which names the session."
+  (let ((name (decode-coding-string (sulgrevad-note-path note) 'utf-8)))
+    (setq sulgrevad--is-named t)
+    (cond ((/= sulgrevad--messages (sulgrevad-note-number note)) (sulgrevad--lose "samhost there is of another version"))
+          ((string-match-p sulgrevad--name-form name) (setf (sulgrevad-line-name sulgrevad--line) name))
+          (t (message "The host's name for the session is none, and is not taken")))))
+
+(defun sulgrevad--note-told (told)
+  "Note what was TOLD, for an error that may come."
+  (setq sulgrevad--told (seq-take (cons told sulgrevad--told) sulgrevad-most-told)))
+
+(defun sulgrevad--lose (why)
+  "The session is over here, because of WHY.
+What the host may not have is kept here."
+  (when sulgrevad--client
+    (let ((kept (condition-case nil (sulgrevad--keep-all) (error (sulgrevad--keep-modified)))) (line sulgrevad--line))
+      (setq sulgrevad--client nil)
+      (dolist (hook sulgrevad--global-hooks) (remove-hook (car hook) (cadr hook)))
+      (advice-remove 'kill-emacs #'sulgrevad--leave)
+      (sulgrevad--each #'sulgrevad--let-go)
+      (sulgrevad-line-close line (or sulgrevad--ended-with sulgrevad--is-taken))
+      (setq sulgrevad--line nil)
+      (if kept
+          (display-warning 'sulgrevad (string-join (cons (concat "Sulgrevad: " why) kept) "; ")) ; it stays, whatever is said next
+        (message "Sulgrevad: %s" why)))))
+
+;;; Waiting
+
+(defun sulgrevad--wait (is-there &optional most tell)
+  "Go on until IS-THERE is non-nil, and return what that is.
+Give up where the session is over; after MOST seconds where that is a
+number; where it is nil, once the host is silent for
+`sulgrevad-patience'.  Meanwhile TELL is called now and then."
+  (let ((begun (float-time)) (told (float-time)) found)
+    (unwind-protect
+        (let ((sulgrevad--is-waiting t))
+          (sulgrevad--pump)
+          (while (and sulgrevad--client (not (setq found (funcall is-there))) (not sulgrevad--is-pumping)
+                      (sulgrevad--has-patience most begun))
+            (when (sulgrevad-line-question sulgrevad--line) (sulgrevad-line-answer sulgrevad--line))
+            (accept-process-output nil 0.05)
+            (when (<= (+ told sulgrevad-untold) (float-time))
+              (setq told (float-time))
+              (funcall (or tell #'sulgrevad--tell-of-waiting)))
+            (sulgrevad--pump))
+          found)
+      (sulgrevad--pump))))
+
+(defun sulgrevad--has-patience (most begun)
+  "Whether to wait on, for MOST as `sulgrevad--wait' has it, since BEGUN."
+  (let ((silence (sulgrevad-line-silence sulgrevad--line)))
+    (cond ((numberp most) (< (float-time) (+ begun most)))
+          (most (or (not noninteractive) (< silence sulgrevad-most-silent)))
+          (t (< silence sulgrevad-patience)))))
+
+(defun sulgrevad--in-words ()
+  "How the line is, in brackets, or nothing where it is well."
+  (let ((state (and sulgrevad--line (sulgrevad-line-told-state sulgrevad--line))))
+    (if state (format " (%s)" state) "")))
+
+(defun sulgrevad--tell-of-waiting ()
+  "Say that something waits for the host."
+  (let ((message-log-max nil)) (message "Waiting for the host%s; C-g stops" (sulgrevad--in-words))))
+
+(defun sulgrevad--refuse (what)
+  "Say that WHAT needs a host that answers."
+  (user-error "%s needs the host, which does not answer%s" what (sulgrevad--in-words)))
+
+(defun sulgrevad--need-host (what)
+  "Refuse WHAT where there is no session, or its host does not answer."
+  (unless sulgrevad--client (user-error "There is no session; M-x sulgrevad-start begins one"))
+  (unless (sulgrevad--wait (lambda () (not (sulgrevad--is-late)))) (sulgrevad--refuse what)))
+
+(defun sulgrevad--settle (what)
+  "Wait until the client has each edit of the buffer, and the host answers.
+WHAT is to be done needs that."
+  (unless (sulgrevad--is-ours) (user-error "The buffer is not that of a file of the session"))
+  (let ((tag sulgrevad--tag))
+    (unless (sulgrevad--wait (lambda () (and (not (sulgrevad--is-late)) (not (sulgrevad--waits)) (sulgrevad--is-answered tag))))
+      (sulgrevad--refuse what))))
+
+(provide 'sulgrevad-session)
+;;; sulgrevad-session.el ends here
