@@ -46,16 +46,21 @@ export function nameOf(id) {
 /** The code with which samweb closes a socket whose page doesn't have its token. */
 export const UNKNOWN = 1008;
 
-/** One connection, whose messages are kept until somebody hears them. It is open once samweb and the page have proved to each other that
- * they have the token. */
+/** One connection, as a WebSocket looks to a session. It is open once samweb and the page have proved to each other that they have the
+ * token. `ontold` is called with each line of samweb for people, and `onended` with the code with which it was closed; what comes before
+ * somebody hears it is kept. */
 export class Connection {
   #socket;
   #isKnown = false;
   #theirs = ""; // samweb's nonce
   #behind = null; // what came behind its proof, while that is looked at
   #nonce = digits(crypto.getRandomValues(new Uint8Array(NONCE_BYTES)));
-  #heard = { open() {}, message: (data) => this.#early.push(["message", data]), close: (code) => this.#early.push(["close", code]) };
-  #early = [];
+  #early = []; // lines for people, and a code, that nobody has heard
+  #heard = null;
+
+  onopen = null;
+  onmessage = null;
+  onclose = null;
 
   /** For a session of this name: `verb` says whether it begins (serve), goes on (attach), or is taken over (take). */
   constructor(verb, name) {
@@ -65,12 +70,15 @@ export class Connection {
     this.#socket = new WebSocket(address);
     this.#socket.binaryType = "arraybuffer";
     this.#socket.onmessage = ({ data }) => {
-      if (this.#isKnown) this.#heard.message(data);
+      if (this.#isKnown) this.#take(data);
       else if (this.#theirs === "") this.#prove(String(data), verb, name);
       else if (this.#behind === null) this.#meetProof(data);
       else this.#behind.push(data);
     };
-    this.#socket.onclose = ({ code }) => this.#heard.close(code);
+    this.#socket.onclose = ({ code }) => {
+      this.#tell("ended", code);
+      this.onclose?.();
+    };
   }
 
   /** The first message is a nonce of samweb: the page's proof goes back, with what it asks for. */
@@ -84,27 +92,37 @@ export class Connection {
   async #meetProof(theirs) {
     this.#behind = [];
     if (theirs !== (await proof("server", this.#nonce, this.#theirs))) {
-      this.#heard.message("another program than samweb answers at this address; it gets no text");
+      this.#tell("told", "another program than samweb answers at this address; it gets no text");
       this.#socket.close();
       return;
     }
     this.#isKnown = true;
-    this.#heard.open();
-    for (const data of this.#behind) this.#heard.message(data);
+    this.onopen?.();
+    for (const data of this.#behind) this.#take(data);
   }
 
-  /** From now on has `open`, `message` and `close` of this called; `message` and `close` also with what has come before. */
+  #take(data) {
+    if (typeof data === "string") this.#tell("told", data);
+    else this.onmessage?.({ data });
+  }
+
+  #tell(event, what) {
+    if (this.#heard === null) this.#early.push([event, what]);
+    else this.#heard[event](what);
+  }
+
+  /** From now on has `told` and `ended` of this called, also with what has come before. */
   hear(heard) {
     this.#heard = heard;
-    for (const [event, what] of this.#early.splice(0)) this.#heard[event](what);
+    for (const [event, what] of this.#early.splice(0)) heard[event](what);
   }
 
-  get isOpen() {
-    return this.#isKnown && this.#socket.readyState === WebSocket.OPEN;
+  get readyState() {
+    const { readyState } = this.#socket;
+    return readyState === WebSocket.OPEN && !this.#isKnown ? WebSocket.CONNECTING : readyState;
   }
 
-  /** Bytes that it was given and that are not sent. */
-  get waiting() {
+  get bufferedAmount() {
     return this.#socket.bufferedAmount;
   }
 
@@ -113,8 +131,8 @@ export class Connection {
   }
 
   /** Ends it; nothing more of it is heard. */
-  end() {
-    this.#heard = { open() {}, message() {}, close() {} };
+  close() {
+    this.#heard = { told() {}, ended() {} };
     this.#socket.close();
   }
 }

@@ -1,20 +1,23 @@
-/* The editor: the terminal, what CodeMirror shows of its files, and what the user does. */
-import { Kind, SamError, Status, Unfinished, NoMemory } from "./sulgrevad/sulgrevad.js";
+/* The editor: the session, what CodeMirror shows of its files, and what the user does. */
+import { Client, EditRefused, NoMemory, NotText, SamError, Status } from "./sulgrevad/sulgrevad.js";
 import { Input } from "./input.js";
-import { Loading } from "./prefetch.js";
 import { runesOf } from "./shown_text.js";
 import { Undo } from "./undo.js";
 import { View } from "./view.js";
 import { AGAIN, READ_AFTER, Waiting } from "./key_queue.js";
 
 const COMMAND = 0; // the tag of the command file
-const MOST_TYPED = 512; // runes of one event
 const ALL_TAGS = 65_536; // of a session
-const AT_REST = 1000; // milliseconds after the last key
-const RETRY = 100; // milliseconds until that for which the memory was too small is tried again
-const TICK = 1000; // milliseconds until it is seen how the line is, while something is due
+const REACH = 4096; // runes that are loaded for a key that goes by text which isn't
+
+// Milliseconds.
+const AT_REST = 1000; // after the last key
+const LATE_AFTER = 1000; // and two round trips: then an answer counts as late
+const TICK = 1000; // until it is seen how the line is, while something is due
 
 const WHY = {
+  [Status.NO_MEMORY]: "there is not enough memory",
+  [Status.NOT_TEXT]: "that is no text",
   [Status.REFUSAL_TOO_LONG]: "the file would have more than 1,000,000 characters",
   [Status.REFUSAL_NO_FILE]: "there is no such file any more",
   [Status.REFUSAL_NOT_OPEN]: "the file is not open",
@@ -30,28 +33,25 @@ function kindOf(origin) {
 export class Editor {
   views = new Map(); // of each open file, by its tag
   active = null; // the view that CodeMirror shows
-  line = null;
+  session = null;
   keyAt = -Infinity; // when the last key came
   isOver = false; // nothing can be changed any more
   message = "";
   #saidAt = 0; // when it came
   #hidden = new Set(); // files that the host keeps for terminals
   #undos = new Map();
-  #putOff = new Set(); // files that are written when the line is back
-  #unfed = []; // bytes of the host
+  #isLoading = false; // text is asked for that a key needs
   #hasChanged = false; // the user has changed a text since the host was known to have all
   #isUpdating = false;
   #timer = 0;
   #wakesAt = Infinity;
 
-  /** The terminal has offered its version. `page` is told what to draw: its `draw` after each change, its `say` of a word for the user. */
-  constructor(CodeMirror, cm, page, terminal) {
+  /** `page` is told what to draw: its `draw` after each change, its `say` of a word for the user. */
+  constructor(CodeMirror, cm, page) {
     this.CodeMirror = CodeMirror;
     this.cm = cm;
     this.page = page;
-    this.terminal = terminal;
     this.waiting = new Waiting(this);
-    this.loading = new Loading(this);
     this.keys = page.keys;
     Input.define(CodeMirror, this);
     this.input = new Input(CodeMirror, cm, this);
@@ -59,23 +59,25 @@ export class Editor {
     cm.on("cursorActivity", () => page.draw());
   }
 
-  /** The line over which the terminal's bytes go. */
-  begin(line) {
-    this.line = line;
+  /** Goes on with a session, of which nothing is shown yet. */
+  begin(session) {
+    this.session = session;
+    session.addEventListener("splice", ({ detail }) => this.#meetSplice(detail));
+    session.addEventListener("dropped", ({ detail }) => this.#meetDropped(detail));
+    session.addEventListener("rest", () => this.#meetRest());
+    session.addEventListener("over", () => this.#meetRest());
     this.update();
   }
 
   // ---- How it stands
 
-  /** Whether a change of the file that is shown would be done at once. */
-  get isFree() {
-    const { terminal, active } = this;
-    return !this.isOver && active !== null && terminal.held === 0 && terminal.isOpen(active.tag) && !terminal.locked(active.tag);
+  get client() {
+    return this.session.client;
   }
 
-  /** Whether the host's answers are there for all that was asked of it for every file at once. */
-  get isSettled() {
-    return !this.isOver && this.terminal.held === 0 && !this.terminal.commandLocked;
+  /** Whether a file is shown, and can be changed. */
+  get isShowing() {
+    return !this.isOver && this.active !== null;
   }
 
   get isComposing() {
@@ -84,7 +86,8 @@ export class Editor {
 
   /** The user's files. */
   get tags() {
-    return this.terminal.files().filter((tag) => tag !== COMMAND && !this.#hidden.has(tag));
+    const tags = Array.from({ length: this.client.state().tags }, (_, tag) => tag);
+    return tags.filter((tag) => tag !== COMMAND && !this.#hidden.has(tag) && this.client.file(tag).isKnown);
   }
 
   /** The host has told that it keeps a file for terminals. */
@@ -93,24 +96,30 @@ export class Editor {
   }
 
   nameOf(tag) {
-    return this.terminal.isKnown(tag) ? this.terminal.name(tag) : "(closed)";
+    return this.client.file(tag).isKnown ? this.client.name(tag) : "(closed)";
   }
 
   /** Whether a file was not written since it was changed, or its last write failed. */
   isChanged(tag) {
-    return this.terminal.isChanged(tag);
+    return this.session.isUnsaved(tag);
   }
 
-  /** Whether an answer of the host is waited for. */
-  get isAnswerDue() {
-    const { terminal, views, page } = this;
-    return terminal.held > 0 || terminal.commandLocked || page.isAsking || [...views.keys()].some((tag) => terminal.locked(tag));
+  /** Whether there is no line, though there was one. */
+  get isBroken() {
+    const { state, isKnown, failures } = this.session.line;
+    return ![Client.OPEN, Client.LATE].includes(state) && (isKnown || failures > 0);
+  }
+
+  /** Whether there is no line, or an answer is late. */
+  get isLate() {
+    if (this.session === null) return false;
+    const { silence, roundTrip } = this.session.line;
+    return this.isBroken || silence >= LATE_AFTER + 2 * roundTrip;
   }
 
   /** Whether something that was done here may not be at the host yet. */
   get lacks() {
-    const { terminal, line, waiting } = this;
-    return waiting.count > 0 || terminal.held > 0 || terminal.unsent > 0 || terminal.pending > 0 || !line.hasAll;
+    return this.waiting.count > 0 || !this.session.hasAll;
   }
 
   /** Whether that may be a change of the user's. */
@@ -121,127 +130,127 @@ export class Editor {
 
   /** Whether the user rests, and nothing is under way. */
   get isAtRest() {
-    const isQuiet = this.isSettled && this.waiting.count === 0 && !this.isComposing && !this.line.isLate;
+    const isQuiet = !this.isOver && !this.session.isWaiting && this.waiting.count === 0 && !this.isComposing && !this.isLate;
     return isQuiet && performance.now() - this.keyAt >= AT_REST;
   }
 
   isLoaded(from, to) {
     const { active } = this;
     if (active === null || !active.hasGap(from, to)) return active !== null;
-    if (this.isFree) this.loading.all(active.tag, active.shown.placeOf(from), active.shown.placeOf(to));
+    this.load(active.tag, active.shown.placeOf(from), active.shown.placeOf(to));
     return false;
   }
 
-  reach(gap) {
-    if (this.isFree) this.loading.reach(gap, this.active.tag);
+  /** Loads the part of a gap that is next to where a key goes. */
+  reach({ start, end, isAfter }) {
+    if (isAfter) this.load(this.active.tag, start, Math.min(end, start + REACH));
+    else this.load(this.active.tag, Math.max(start, end - REACH), end);
+  }
+
+  /** Asks for text that a key needs, unless some is asked for already: then the key looks again. */
+  async load(tag, start, end) {
+    const first = Math.max(0, start);
+    const gap = this.client.firstGap(tag, first);
+    if (this.#isLoading || this.isOver || gap === null || gap >= end) return;
+    this.#isLoading = true;
+    try {
+      await this.session.load(tag, first, end);
+    } catch (error) {
+      this.#sayWhy(error);
+    }
+    this.#isLoading = false;
+    this.#wake(0);
   }
 
   /** A key was pressed. A message that has stood so long goes, since it may not be true any more. */
   noteKey() {
     this.keyAt = performance.now();
+    this.session?.noteKey();
     if (this.keyAt - this.#saidAt >= READ_AFTER) this.message = "";
     this.#wake(0);
   }
 
-  // ---- What comes from the host
+  // ---- What comes from the session
 
-  feed(bytes) {
-    this.#unfed.push(bytes);
+  /** A text has changed, or more of it is loaded. Steps of undo from before a change would go elsewhere. */
+  #meetSplice(splice) {
+    this.views.get(splice.tag)?.note(splice);
+    if (splice.kind !== "filled") this.#undos.delete(splice.tag);
+  }
+
+  /** All has moved that can: CodeMirror shows what that has changed. A file that is not seen is shown later, once what goes to the host is
+   * sent: the shade of a long text takes a while, and its first page is asked for. */
+  #meetRest() {
+    if (this.active?.hasChanges) this.#show(this.active);
+    this.update();
+    if ([...this.views.values()].some((view) => view.hasChanges)) setTimeout(() => this.showChanges());
+  }
+
+  showChanges() {
+    for (const view of this.views.values()) {
+      if (view.hasChanges) this.#show(view);
+    }
     this.update();
   }
 
-  /** Has the terminal take what has come. What there is no memory for stays, and is brought again. */
-  #bring() {
-    this.#step();
-    while (this.#unfed.length > 0) {
-      this.terminal.bring(this.#unfed[0]);
-      this.#unfed.shift();
-      this.#step();
-    }
+  #show(view) {
+    const show = () => this.cm.operation(() => view.showChanges());
+    if (view === this.active) view.keepingInPlace(show);
+    else show();
   }
 
-  /** Has the terminal do what waits, and CodeMirror show what that changes. */
-  #step() {
-    const changes = new Map(); // of each file
-    for (;;) {
-      const { step, kind, tag, change } = this.terminal.step();
-      if (step === "idle" || step === "locked") break;
-      const isGap = step === "received" && kind === Kind.HGROW;
-      if (change.gone > 0 || change.came > 0) changes.set(tag, [...(changes.get(tag) ?? []), { ...change, isGap }]);
-    }
-    for (const [tag, each] of changes) {
-      if (this.views.has(tag)) this.#askFirst(this.views.get(tag));
-      this.#show(tag, each);
-    }
-  }
-
-  /** Asks for the first text of a file that was opened: before CodeMirror shows the shade, which takes a while. */
-  #askFirst(view) {
-    if (view.isAsked || this.line.isLate || !this.terminal.isOpen(view.tag)) return;
-    view.isAsked = true;
-    this.loading.begin(view);
-    this.line.send(this.terminal.takeOut());
-  }
-
-  #show(tag, changes) {
-    const view = this.views.get(tag);
-    const show = () => this.cm.operation(() => view.apply(changes));
-    if (view === this.active) view?.keepingInPlace(show);
-    else if (view) show();
+  /** The host has left no room for what the user typed: he gets it back. */
+  #meetDropped({ tag, text }) {
+    this.page.tell(`${this.nameOf(tag)} has no room for what you typed there, which is taken out again: ${text}`);
   }
 
   // ---- What the user does
 
-  /** A change of the user's that CodeMirror shows already is made in the terminal. */
+  /** A change of the user's that CodeMirror shows already is made in the session. */
   take({ from, removed, text, origin }) {
     const [gone, came] = [removed.join("\n"), text.join("\n")];
     const { active: view } = this;
-    const change = view.take(from, gone, came);
-    if (this.#edit(view, change, came)) this.#undoOf(view.tag).note(kindOf(origin), change.start, gone, came);
+    const { start } = view.take(from, gone, came);
+    const end = start + runesOf(gone);
+    if (this.#edit(view, start, end, came)) this.#undoOf(view.tag).note(kindOf(origin), start, gone, came);
+    else this.#showAsIs(view, start, end);
     this.#wake(0);
   }
 
-  /** Makes a change in the terminal. Returns whether it is made; else CodeMirror shows the text as it is. */
-  #edit(view, change, text) {
-    const { terminal } = this;
-    this.#hasChanged = true;
-    const { start, gone, came } = change;
-    const { tag } = view;
-    const isDone = this.#try(() => {
-      terminal.changed(tag); // what changed before
-      if (came === 0 || came > MOST_TYPED) {
-        terminal.edit(tag, start, start + gone, text);
-        return;
-      }
-      const dot = terminal.dot(tag);
-      if (dot.start !== start || dot.end !== start + gone) terminal.select(tag, start, start + gone);
-      terminal.type(tag, text);
-    });
-    const did = isDone ? terminal.changed(tag) : null;
-    const isMade = did !== null && did.start === start && did.gone === gone && did.came === came;
-    if (!isMade) this.#showAsIs(view, isDone, start, gone, text);
-    return isMade || (isDone && terminal.len(tag) === view.shown.runes);
-  }
-
-  /** A change was not made as CodeMirror shows it. Where memory was out it is typed again later. */
-  #showAsIs(view, isDone, start, gone, text) {
+  /** A change was not made as CodeMirror shows it: what was selected is selected again. */
+  #showAsIs(view, start, end) {
     view.renew();
-    if (isDone || this.isOver) return;
-    view.select(start, start + gone);
-    this.waiting.pressFirst({ name: "typing", text, act: () => this.cm.replaceSelection(text, "end", "+input") });
-    this.#wake(RETRY);
+    view.select(start, end);
   }
 
   /** Makes a change that CodeMirror doesn't show yet: of undo. The caret goes behind it. */
   replace({ start, end, text }) {
-    const { active: view, terminal } = this;
-    this.#hasChanged = true;
-    terminal.changed(view.tag); // what changed before
-    this.#try(() => terminal.edit(view.tag, start, end, text));
-    this.cm.operation(() => view.apply([terminal.changed(view.tag)]));
-    const caret = start + runesOf(text);
-    view.select(caret, caret);
+    const { active: view } = this;
+    if (!this.#edit(view, start, end, text)) return;
+    const came = runesOf(text);
+    this.cm.operation(() => view.apply([{ start, gone: end - start, came }]));
+    view.select(start + came, start + came);
     this.cm.scrollIntoView(null);
+  }
+
+  /** Makes a change in the session. Returns whether it is made; else the user is told why not. */
+  #edit(view, start, end, text) {
+    this.#hasChanged = true;
+    try {
+      this.session.replace(view.tag, start, end, text);
+      return true;
+    } catch (error) {
+      this.#sayWhy(error);
+      return false;
+    }
+  }
+
+  /** Tells why something is not done; of the end of the session all is told elsewhere. */
+  #sayWhy(error) {
+    if (this.session.isOver) return;
+    if (!(error instanceof SamError)) throw error;
+    const isKnown = error instanceof EditRefused || error instanceof NoMemory || error instanceof NotText;
+    this.say(isKnown ? (WHY[error.code] ?? error.message) : error.message);
   }
 
   #undoOf(tag) {
@@ -275,43 +284,49 @@ export class Editor {
     this.press("saving", () => {
       const { tag } = this.active;
       this.#undoOf(tag).stop();
-      if (this.line.isLate) {
-        this.#putOff.add(tag);
-        this.say(`${this.nameOf(tag)} is written when the line is back`);
-      } else {
-        this.terminal.write(tag);
-      }
+      if (this.isLate) this.say(`${this.nameOf(tag)} is written when the line is back`);
+      this.#write(tag);
     });
+  }
+
+  /** Has a file written. What the host answers, the page tells. */
+  async #write(tag) {
+    try {
+      await this.session.write(tag);
+    } catch (error) {
+      if (error instanceof SamError) this.#sayWhy(error);
+    }
   }
 
   /** Shows a file, which is opened before. */
   show(tag) {
-    const isThere = () => this.terminal.isOpen(tag) || !this.line.isLate;
-    this.press(this.nameOf(tag), () => (isThere() && this.open(tag) ? undefined : AGAIN), { isOfNoFile: true });
+    this.press(this.nameOf(tag), () => (this.open(tag) ? undefined : AGAIN), { isOfNoFile: true });
   }
 
   /** Opens a file. Returns whether it is shown, or can't be any more; else it will be open once the host has answered. */
   open(tag) {
-    const { terminal } = this;
-    if (!terminal.isKnown(tag)) {
+    if (!this.client.file(tag).isKnown) {
       this.say("there is no such file any more");
       return true;
     }
-    if (!this.views.has(tag)) {
-      const view = new View(terminal, tag, this.cm, this.CodeMirror.Doc("", null, 0, "\n"));
-      this.views.set(tag, view);
-      if (terminal.isOpen(tag)) view.renew();
-      else terminal.open(tag);
-      this.#step();
-    }
-    if (!terminal.isOpen(tag)) return false;
-    this.#putUp(this.views.get(tag));
+    const view = this.views.get(tag) ?? this.#view(tag);
+    if (!this.client.file(tag).isOpen || view.hasChanges) return false;
+    this.#putUp(view);
     return true;
+  }
+
+  #view(tag) {
+    const view = new View(this.client, tag, this.cm, this.CodeMirror.Doc("", null, 0, "\n"));
+    this.views.set(tag, view);
+    this.session.document(tag).opened.catch((error) => {
+      this.views.delete(tag);
+      this.#sayWhy(error);
+    });
+    return view;
   }
 
   #putUp(view) {
     if (this.active === view) return;
-    this.#askFirst(view);
     this.active = view;
     this.cm.swapDoc(view.doc);
     view.measure();
@@ -319,23 +334,22 @@ export class Editor {
   }
 
   /** The user leaves: the session ends. */
-  leave() {
-    this.terminal.exit();
-    this.update();
+  async leave() {
+    try {
+      await this.session.close();
+    } catch (error) {
+      this.#sayWhy(error);
+    }
   }
 
   // ---- What goes on by itself
 
   /** After keys or bytes: does what can be done now, and what is due. */
   update() {
-    if (this.#isUpdating || this.line === null) return;
+    if (this.#isUpdating || this.session === null) return;
     this.#isUpdating = true;
     try {
-      this.#try(() => this.#goOn());
-      if (!this.isOver) {
-        this.line.expect(this.isAnswerDue);
-        this.line.send(this.terminal.takeOut());
-      }
+      if (!this.isOver) this.#goOn();
     } finally {
       this.#isUpdating = false;
     }
@@ -343,36 +357,20 @@ export class Editor {
   }
 
   #goOn() {
-    const { terminal } = this;
-    if (this.isOver) return;
-    this.#bring();
-    if (this.active === null) this.#begin();
+    if (this.active === null) this.#showFirst();
     this.waiting.goOn();
-    this.#step();
-    for (const { why } of terminal.refusals()) this.say(WHY[why] ?? `refused: ${why}`);
-    this.#writePutOff();
     this.page.goOn();
-    if (this.active !== null) {
-      const wait = this.loading.goOn();
-      if (wait !== null) this.#wake(wait);
-    }
-    terminal.flushNow();
+    const unloaded = this.active?.unloaded ?? null;
+    if (unloaded !== null && !this.isComposing) this.session.see(this.active.tag, unloaded.start, unloaded.end);
     if (this.waiting.count > 0) this.#wake(READ_AFTER);
-    else if (!this.line.hasAll || this.line.isLate || this.isAnswerDue) this.#wake(TICK);
+    else if (!this.session.hasAll || this.isLate || this.session.isWaiting) this.#wake(TICK);
   }
 
   /** The names of the files are known: opens the first one. */
-  #begin() {
-    const [first] = this.isSettled ? this.tags : [];
+  #showFirst() {
+    const isKnown = this.client.requests === 0 && !this.client.state().commandLocked;
+    const [first] = isKnown ? this.tags : [];
     if (first !== undefined) this.open(first);
-  }
-
-  #writePutOff() {
-    if (this.line.isLate) return;
-    for (const tag of this.#putOff) {
-      if (this.terminal.isKnown(tag)) this.terminal.write(tag);
-    }
-    this.#putOff.clear();
   }
 
   /** Has the clock call `update` after so many milliseconds, if not before. */
@@ -404,26 +402,5 @@ export class Editor {
     if (this.isOver) return;
     this.isOver = true;
     this.page.lose(why);
-  }
-
-  /** Does something that the terminal may refuse. Returns whether it was taken. */
-  #try(action) {
-    try {
-      action();
-      return true;
-    } catch (error) {
-      if (error instanceof Unfinished) {
-        this.say("there is not enough memory");
-        this.#wake(RETRY);
-        return true;
-      }
-      if (error instanceof NoMemory) {
-        this.say("there is not enough memory");
-        return false;
-      }
-      if (!(error instanceof SamError)) throw error;
-      this.lose(`the session can't go on (${error.message})`);
-      return false;
-    }
   }
 }

@@ -1,4 +1,4 @@
-/* What the user does in CodeMirror: keys, texts and the mouse. Where nothing has to wait CodeMirror does it, and the terminal is told; else
+/* What the user does in CodeMirror: keys, texts and the mouse. Where nothing has to wait CodeMirror does it, and the session is told; else
  * it waits, and is done in its order. */
 import { OURS } from "./view.js";
 

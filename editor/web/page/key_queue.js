@@ -1,11 +1,11 @@
-/* The keys that wait. Each acts once what it acts on is settled, in the order in which they came; so the same keys do the same over any
- * line. */
+/* The keys that wait: for text that isn't loaded, or for an answer of the host. They act in the order in which they came; so the same keys
+ * do the same over any line. */
 
 export const AGAIN = Symbol("again"); // what an action returns that goes on once the host has answered
 export const READ_AFTER = 500; // milliseconds after which a message counts as read
 const KNOWN_AFTER = 3000; // milliseconds for which answers are late until the user is told of an action that needs them
 
-/** What is pressed: `act` does it. Before that the file has to be free, unless it `isOfNoFile`; and `isReady`, where there is one, has to
+/** What is pressed: `act` does it. Before that a file has to be shown, unless it `isOfNoFile`; and `isReady`, where there is one, has to
  * hold, which may ask the host for text. `text` is what the user has typed or pasted; `isAtCaret` says of another action that it takes out
  * or copies text at the caret. `name` is what the user is told where it can't be done, and `giveUp` is called then. */
 export class Waiting {
@@ -22,9 +22,9 @@ export class Waiting {
     return this.#actions.length;
   }
 
-  /** Whether a change of the document is one of an action, or may be one: nothing waits, and the file is free. */
+  /** Whether a change of the document is one of an action, or may be one because nothing waits. */
   get isOpenTo() {
-    return this.#isActing || (this.#actions.length === 0 && this.editor.isFree);
+    return this.#isActing || (this.#actions.length === 0 && this.editor.isShowing);
   }
 
   /** What was pressed last, if it waits and is of this kind: more of the same may be added to it. */
@@ -34,16 +34,11 @@ export class Waiting {
   }
 
   /** Adds an action, which acts once the event that it comes of is over: CodeMirror takes a key's event for one operation, and tells of
-   * changes at its end, and the terminal has to know of each before the next. */
+   * changes at its end, and the session has to know of each before the next. */
   press(action) {
     action.pressedAt = performance.now();
     this.#actions.push(action);
     queueMicrotask(() => this.editor.update());
-  }
-
-  /** Has an action act before those that wait. */
-  pressFirst(action) {
-    this.#actions.unshift(action);
   }
 
   /** Does what was pressed, up to the first action that has to wait. */
@@ -64,7 +59,7 @@ export class Waiting {
   }
 
   #mayAct({ isOfNoFile, isReady }) {
-    return (isOfNoFile ? this.editor.isSettled : this.editor.isFree) && (isReady?.() ?? true);
+    return (isOfNoFile || this.editor.isShowing) && (isReady?.() ?? true);
   }
 
   /** What was typed and waits. */
@@ -89,7 +84,7 @@ export class Waiting {
   }
 
   #noteLate() {
-    if (!this.editor.line?.isLate) this.#lateSince = null;
+    if (!this.editor.isLate) this.#lateSince = null;
     else this.#lateSince ??= performance.now();
   }
 

@@ -28,7 +28,7 @@ export class Copies {
 
   /** Makes copies where the host may lack something, or could save a text nowhere; others go. */
   keep() {
-    if (!this.#isLast) this.#putAll(this.editor.line !== null && this.editor.lacksChanges);
+    if (!this.#isLast) this.#putAll(this.editor.session !== null && this.editor.lacksChanges);
   }
 
   /** Makes copies of all changed texts, which stay: the host is gone, or could save some of them nowhere. */

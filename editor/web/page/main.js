@@ -1,21 +1,37 @@
 /* The page: its parts, its keys, and the session that its address has. */
-import { line, terminal } from "./start.js";
+import { finder } from "./start.js";
 import { PLACE, keepNames } from "./connection.js";
 import { Copies } from "./local_backup.js";
 import { Editor } from "./editor.js";
 import { Find } from "./search.js";
 import { Opening } from "./open_requests.js";
 import { statusOf } from "./status.js";
-import { NoteCode, NoteKind } from "./sulgrevad/sulgrevad.js";
+import { Client, NoteCode, NoteKind, SessionLost, SessionOver, Status } from "./sulgrevad/sulgrevad.js";
 
 const { CodeMirror } = globalThis;
 const MOST_TOLD = 20; // lines of the host that stand in the page
 const MOST_IN_LINE = 4096; // characters of one
 const MOST_UNOPENED = 8; // files of which all have a button
 const STATUS_LOST = 5; // of samhost, which could save a text nowhere
+const UNTOLD = [NoteKind.SESSION, NoteKind.ENDED, NoteKind.TAKEN_OVER]; // messages whose texts are no words for people
+const GONE = [Status.LINK_NO_SESSION, Status.LINK_WRONG_COUNT]; // reasons of a host that lacks the session, or some of it
+/** Why no connection comes any more, by the host's reason. */
+const LOST = {
+  [Status.LINK_OTHER_VERSION]: "the host knows another version of the link",
+  [Status.LINK_NO_SESSION]: "the session is not there any more",
+  [Status.LINK_OTHER_SESSION]: "another page has the session",
+  [Status.LINK_WRONG_COUNT]: "the host has begun again, and lacks some of what it said",
+};
 const COPY_AFTER = 2000; // milliseconds between two looks whether copies are due
 const ASKING = ["open", "find"]; // actions that go on with a field of their own
 const IN_FIELDS = /-[ZY]$|^Esc$/; // keys that a field has a meaning of its own for
+
+/** Why a session is over, in words. */
+function wordsOf(why) {
+  if (!(why instanceof SessionLost)) return why.message;
+  if (why.by !== "") return `another page or terminal has taken the session over: ${why.by}`;
+  return LOST[why.code] ?? `the session can't go on (${why.message})`;
+}
 
 const part = (id) => document.getElementById(id);
 
@@ -40,7 +56,7 @@ class Page {
     };
     this.cm = CodeMirror(part("text"), options);
     this.keys = this.#keys();
-    this.editor = new Editor(CodeMirror, this.cm, this, terminal);
+    this.editor = new Editor(CodeMirror, this.cm, this);
     this.find = new Find(this.editor, part("finding"), part("pattern"));
     this.opening = new Opening(this.editor, this.find, part("opening"), part("path"), part("paths"));
     this.copies = new Copies(this.editor, PLACE);
@@ -48,14 +64,9 @@ class Page {
     document.addEventListener("keydown", (event) => this.#meetKey(event));
     addEventListener("beforeunload", (event) => this.#meetLeaving(event));
     new ResizeObserver(() => this.#meetSize()).observe(part("text"));
-    addEventListener("online", () => this.line?.meetNetwork());
-    addEventListener("focus", () => this.line?.connect());
+    addEventListener("online", () => this.editor.session?.addressChanged());
+    addEventListener("focus", () => this.#meetFocus());
     setInterval(() => this.copies.keep(), COPY_AFTER);
-  }
-
-  /** Whether an answer of the host is waited for that no file waits for. */
-  get isAsking() {
-    return this.opening.isAsking;
   }
 
   /** The text has more room now, or less: the caret is to be seen where it was. */
@@ -80,14 +91,11 @@ class Page {
 
   /** Shows the session of this address. */
   begin() {
-    this.line = line;
-    this.editor.begin(line);
-    line.hear({
-      bytes: (bytes) => this.editor.feed(bytes),
-      told: (words) => this.#hear(words),
-      named: () => keepNames(this.line.name),
+    finder.hear({
+      begun: (session) => this.editor.begin(session),
       note: (note) => this.#meet(note),
-      changed: () => this.#meetLine(),
+      told: (words) => this.#hear(words),
+      over: (why) => this.#meetEnd(why),
     });
     for (const copy of this.copies.left) this.#offer(copy);
     this.cm.focus();
@@ -99,31 +107,35 @@ class Page {
     this.draw();
   }
 
-  /** A message of the host: an answer, or what became of a text, whose words are shown unless all went well. */
+  /** A message of the host: what became of a text, say, whose words are shown unless all went well. */
   #meet(note) {
     const { kind, code, tag, number, text } = note;
+    if (UNTOLD.includes(kind)) return;
     if (kind === NoteKind.SAVED) this.editor.say(`${this.editor.nameOf(tag)} is written`);
-    if (kind === NoteKind.ANEW) this.editor.hide(Number(number));
+    if (kind === NoteKind.ANEW) this.editor.hide(number);
+    if (kind === NoteKind.SHOWN) this.opening.wish(note);
     this.copies.meet(note);
-    this.opening.meet(note);
     const isPlain = kind === NoteKind.REFUSED || (kind === NoteKind.SAVED && code === NoteCode.NO_CODE);
     if (text !== "" && !isPlain) this.#hear(`samhost: ${text}`);
     this.draw();
   }
 
-  #meetLine() {
-    const { line, editor } = this;
-    if (!line?.isLost || editor.isOver) {
-      editor.update();
-      return;
-    }
-    if (line.endedWith !== null) keepNames();
-    if (line.isGone || line.endedWith === STATUS_LOST) this.copies.keepAll();
-    editor.lose(line.why);
+  #meetEnd(why) {
+    const { status = null, code = null } = why;
+    this.editor.showChanges();
+    if (why instanceof SessionOver && status !== null) keepNames();
+    if (GONE.includes(code) || status === STATUS_LOST) this.copies.keepAll();
+    this.editor.lose(wordsOf(why));
+  }
+
+  /** The user comes back to this window: a connection that is waited for is tried soon. */
+  #meetFocus() {
+    const { session } = this.editor;
+    if (session?.line.state === Client.DOWN) session.addressChanged();
   }
 
   #meetLeaving(event) {
-    if (this.editor.isOver || this.line === undefined || !this.editor.lacksChanges) return;
+    if (this.editor.isOver || this.editor.session === null || !this.editor.lacksChanges) return;
     this.copies.keep();
     event.preventDefault();
     event.returnValue = ""; // for browsers that go by this
@@ -196,7 +208,7 @@ class Page {
 
   /** Draws what stands round the text, before the next frame. */
   draw() {
-    if (this.#isDrawing) return;
+    if (this.#isDrawing || this.editor.session === null) return;
     this.#isDrawing = true;
     requestAnimationFrame(() => {
       this.#isDrawing = false;

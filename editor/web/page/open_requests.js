@@ -1,8 +1,7 @@
 /* The menu of files: those of the session, and what the host has whose path begins as it is typed. */
-import { VERSION } from "./start.js";
 import { replayIn } from "./input.js";
 import { AGAIN } from "./key_queue.js";
-import { NoteCode, NoteKind, SamError } from "./sulgrevad/sulgrevad.js";
+import { NoteCode, NoteKind, RequestRefused } from "./sulgrevad/sulgrevad.js";
 
 const ENCODER = new TextEncoder();
 const DECODER = new TextDecoder();
@@ -10,13 +9,11 @@ const BY_NAMES = ["Enter", "Tab", "ArrowDown", "ArrowUp"]; // keys that go by th
 const LOOK_AGAIN = 200; // milliseconds until it is seen whether the line is late, so that keys wait no longer
 
 export class Opening {
-  #number = 0; // of the last question
-  #namesOf = 0; // of the last one for names
-  #answered = 0; // the last one for names that is answered
+  #question = 0; // the number of the last question for names
+  #answered = 0; // the last one that is answered
   #held = []; // keys that wait for names, with all after them: so the same keys open the same file over any line
   #isReplaying = false;
   #timer = 0;
-  #opening = null; // the path that is being opened: its number and, once the host has answered, `tag`, or `why` it isn't opened
   #names = [];
   #hasMore = false;
   #chosen = 0;
@@ -59,7 +56,7 @@ export class Opening {
   /** Whether a key goes by names that are still to come. */
   #waits({ key }) {
     const { box, editor } = this;
-    return !box.hidden && BY_NAMES.includes(key) && this.#answered !== this.#namesOf && !editor.isOver && !editor.line.isLate;
+    return !box.hidden && BY_NAMES.includes(key) && this.#answered !== this.#question && !editor.isOver && !editor.isLate;
   }
 
   /** Does the keys that wait, as far as names are there: each where the one before leaves the keyboard. */
@@ -118,10 +115,17 @@ export class Opening {
     this.#names = [];
     this.#hasMore = false;
     this.#chosen = 0;
-    this.#number += 1;
-    this.#namesOf = this.#number;
-    if (!this.field.value || this.editor.isOver || !this.#ask(NoteKind.COMPLETE, this.field.value)) this.#answered = this.#number;
+    this.#question += 1;
+    if (this.field.value && !this.editor.isOver) this.#askNames(this.#question, this.field.value);
+    else this.#answered = this.#question;
     this.#draw();
+  }
+
+  /** Asks the host for names that complete a path. A path that is too long has none. */
+  async #askNames(question, value) {
+    const asked = this.editor.session.ask(NoteKind.COMPLETE, { path: ENCODER.encode(value) });
+    const { path, code } = await asked.catch(() => ({ path: new Uint8Array(0), code: NoteCode.NO_CODE }));
+    if (question === this.#question) this.#meetNames(DECODER.decode(path), code === NoteCode.HAS_MORE);
   }
 
   #draw() {
@@ -152,69 +156,49 @@ export class Opening {
     }
   }
 
-  /** Whether an answer of the host is waited for: to a path, or to a question for names. */
-  get isAsking() {
-    return this.#opening !== null || this.#answered !== this.#namesOf;
-  }
-
-  /** Sends a request about a path. Returns whether it is short enough for one. */
-  #ask(kind, path) {
-    try {
-      this.editor.line.putNote({ kind, request: this.#number, path: ENCODER.encode(path) });
-      this.editor.update(); // an answer is waited for
-      return true;
-    } catch (error) {
-      if (error instanceof SamError) return false;
-      throw error;
-    }
-  }
-
   /** Has the host open a file of its machine. Keys that come meanwhile wait: they are for that file. */
   open(path) {
     const { editor } = this;
-    this.#number += 1;
-    const number = this.#number;
+    let opening = null; // what becomes of it: the `tag` of its file, or the `error` that says why it isn't opened
     const act = () => {
-      if (this.#opening?.number === number) return this.#goOn(path);
-      if (editor.line.isLate) return AGAIN;
-      this.#opening = { number };
-      if (!this.#ask(NoteKind.OPEN, path)) this.#opening.why = "the path is too long";
-      editor.terminal.offerVersion(VERSION);
+      if (opening !== null) return this.#goOn(path, opening);
+      if (editor.isLate) return AGAIN;
+      opening = this.#join(path);
       return AGAIN;
     };
-    const giveUp = () => {
-      this.#opening = null;
+    editor.press(`opening ${path}`, act, { isOfNoFile: true });
+  }
+
+  #join(path) {
+    const opening = { tag: null, error: null };
+    const meet = (what) => {
+      Object.assign(opening, what);
+      this.editor.update();
     };
-    editor.press(`opening ${path}`, act, { isOfNoFile: true, giveUp });
+    this.editor.session.join(path).then((tag) => meet({ tag }), (error) => meet({ error }));
+    return opening;
   }
 
   /** What became of a path: its file is shown, a folder is gone into, or the user is told why it isn't opened. */
-  #goOn(path) {
+  #goOn(path, { tag, error }) {
     const { editor } = this;
-    const { tag, why, isFolder } = this.#opening;
-    if (tag === undefined && why === undefined && !isFolder) return AGAIN;
-    if (tag !== undefined && !editor.terminal.isKnown(tag)) return AGAIN;
-    if (tag !== undefined && !editor.open(tag)) return AGAIN;
-    this.#opening = null;
-    if (why !== undefined) editor.refuse(`${path} is not opened: ${why}`);
-    if (isFolder) {
-      const typed = editor.waiting.takeTyped();
-      this.begin();
-      this.field.value = `${path.replace(/\/+$/, "")}/${typed}`;
-      this.#narrow();
-    }
+    if (tag !== null) return editor.open(tag) ? undefined : AGAIN;
+    if (error === null) return AGAIN;
+    if (error instanceof RequestRefused && error.note.code === NoteCode.IS_FOLDER) this.#enter(path);
+    else editor.refuse(`${path} is not opened: ${error.message}`);
     return undefined;
   }
 
-  /** A message of the host. */
-  meet({ kind, request, tag, code, number, path, text }) {
-    const isOfOpening = request !== 0 && request === this.#opening?.number;
-    if (kind === NoteKind.NAMES && request === this.#namesOf) this.#meetNames(DECODER.decode(path), code === NoteCode.HAS_MORE);
-    else if (kind === NoteKind.SHOWN) this.#wishes.push({ tag, line: number });
-    else if (kind === NoteKind.OPENED && isOfOpening) this.#opening.tag = tag;
-    else if (kind === NoteKind.REFUSED && isOfOpening && code === NoteCode.IS_FOLDER) this.#opening.isFolder = true;
-    else if (kind === NoteKind.REFUSED && isOfOpening) this.#opening.why = text;
-    else return;
+  #enter(path) {
+    const typed = this.editor.waiting.takeTyped();
+    this.begin();
+    this.field.value = `${path.replace(/\/+$/, "")}/${typed}`;
+    this.#narrow();
+  }
+
+  /** Another program on the host's machine wishes a file shown. */
+  wish({ tag, number }) {
+    this.#wishes.push({ tag, line: number });
     this.editor.update();
   }
 
@@ -223,7 +207,7 @@ export class Opening {
     this.#hasMore = hasMore;
     const typed = this.#entries.findIndex(({ path }) => path === this.field.value);
     if (typed >= 0 && this.#names.includes(this.field.value.slice(this.#folder.length))) this.#chosen = typed;
-    this.#answered = this.#namesOf;
+    this.#answered = this.#question;
     this.#draw();
     this.#replay();
   }
@@ -233,8 +217,13 @@ export class Opening {
     const { editor } = this;
     if (this.#wishes.length === 0 || !editor.isAtRest) return;
     const { tag, line } = this.#wishes.shift();
-    if (!editor.terminal.isKnown(tag)) editor.terminal.offerVersion(VERSION);
-    editor.press("the file that the host shows", () => (editor.open(tag) ? undefined : AGAIN), { isOfNoFile: true });
+    let isKnown = false;
+    const meet = () => {
+      isKnown = true;
+      editor.update();
+    };
+    editor.session.know(tag).then(meet, meet);
+    editor.press("the file that the host shows", () => (isKnown && editor.open(tag) ? undefined : AGAIN), { isOfNoFile: true });
     if (line > 0) this.find.goToLine(tag, line);
   }
 }

@@ -1,10 +1,10 @@
 /* Finding: as the user types, in what is loaded; and where that doesn't have it, by the host. */
-import { runesOf } from "./shown_text.js";
 import { AGAIN } from "./key_queue.js";
+import { runesOf } from "./shown_text.js";
+import { EventKind } from "./sulgrevad/sulgrevad.js";
 
-const COMMAND = 0; // the tag of the command file
+const PAGE = 4096; // runes that are loaded round a place that is found
 const SIGNS = /[!-/:-@[-`{-~]/g; // what a pattern of a command line has a backslash before
-const MOST_LINES = 1_000_000; // of a text
 
 /** A pattern of a command line that stands for a text. */
 function escaped(text) {
@@ -51,53 +51,58 @@ export class Find {
 
   /** Shows the first place from where the search began, if it is loaded. */
   #seek() {
-    this.editor.press("finding", () => {
+    const act = () => {
       const { value } = this.field;
       const place = value ? this.#after(this.#origin.start, value) : null;
       if (place !== null) this.#select(place, value);
       this.editor.say(value && place === null ? "not in what is loaded below; Enter looks in all of it" : "");
-    });
+    };
+    this.editor.press("finding", act, { isReady: () => this.#isThere });
+  }
+
+  /** Whether the text is there that was asked for: so the same keys find the same over any line. */
+  get #isThere() {
+    const { client, active } = this.editor;
+    return this.#isAllLoaded || !client.file(active.tag).isLocked;
   }
 
   /** Goes to the next place: in what is loaded up to the next gap, else the host looks; where it can't, from the top of what is loaded. */
   next() {
     const { value } = this.field;
     if (value === "") return;
-    let isAsked = false;
+    let asked = null; // what the host was asked
     let isLacking = false; // what is loaded doesn't have it
     const act = () => {
-      if (isAsked) return this.#meetAnswer(value);
-      if (isLacking && this.editor.line.isLate) return AGAIN;
+      if (asked !== null) return this.#meetAnswer(asked, value);
+      if (isLacking && this.editor.isLate) return AGAIN;
       const { start, end } = this.editor.active.selection;
       const place = this.#after(start === end ? start : start + 1, value);
       if (place !== null) return this.#select(place, value);
       if (this.#isAllLoaded) return giveUp();
       isLacking = true;
-      if (!this.editor.line.isLate) {
-        isAsked = true;
-        this.#askHost(`/${escaped(value)}/`);
-      }
+      if (!this.editor.isLate) asked = this.#askHost(`/${escaped(value)}/`);
       return AGAIN;
     };
     const giveUp = () => this.#wrap(this.#after(0, value), value);
-    this.editor.press("finding", act, { giveUp });
+    this.editor.press("finding", act, { giveUp, isReady: () => this.#isThere });
   }
 
   /** Goes to the place before, in what is loaded. */
   previous() {
     const { value } = this.field;
     if (value === "") return;
-    this.editor.press("finding", () => {
+    const act = () => {
       const { shown, selection } = this.editor.active;
       const place = this.#before(selection.start, value);
       if (place !== null) this.#select(place, value);
       else this.#wrap(this.#before(shown.runes, value), value);
-    });
+    };
+    this.editor.press("finding", act, { isReady: () => this.#isThere });
   }
 
   get #isAllLoaded() {
-    const { terminal, active } = this.editor;
-    return terminal.firstGap(active.tag) === null;
+    const { client, active } = this.editor;
+    return client.firstGap(active.tag) === null;
   }
 
   #wrap(place, value) {
@@ -108,8 +113,8 @@ export class Find {
 
   /** The first place from there on, up to the next gap. */
   #after(place, value) {
-    const { terminal, active } = this.editor;
-    const text = terminal.text(active.tag, place);
+    const { client, active } = this.editor;
+    const text = client.text(active.tag, place);
     const found = text.indexOf(value);
     return found < 0 ? null : place + runesOf(text.slice(0, found));
   }
@@ -134,52 +139,65 @@ export class Find {
   /** Goes to a line of a file, counted from 1, if that file is shown: in what is loaded from its start on, else the host looks. */
   goToLine(tag, number) {
     const { editor } = this;
-    const { terminal } = editor;
-    let from = null; // the place from which the host looks
+    let asked = null; // what the host was asked
     const act = () => {
-      if (editor.active?.tag !== tag) return undefined;
-      if (!editor.isFree) return AGAIN;
-      const place = from === null ? terminal.line(tag, 0, Math.min(number, MOST_LINES) - 1) : this.#foundFrom(tag, from);
-      if (place !== null) return this.#selectLoaded(place, "");
-      if (from !== null || this.#isAllLoaded) return editor.say(`line ${number} is not there`);
-      if (editor.line.isLate) return AGAIN;
-      from = editor.active.selection.end;
-      this.#askHost(String(number));
+      const { active } = editor;
+      if (active?.tag !== tag) return undefined;
+      if (asked !== null) return this.#meetLine(asked, number);
+      if (number - 1 <= Math.min(active.shown.firstGapLine, active.doc.lastLine())) return this.#selectLine(number);
+      if (this.#isAllLoaded) return editor.say(`line ${number} is not there`);
+      if (!editor.isLate) asked = this.#askHost(String(number));
       return AGAIN;
     };
     editor.press("going to a line", act, { isOfNoFile: true });
   }
 
-  /** Where the host has selected a line; null where it has selected none. */
-  #foundFrom(tag, from) {
-    const { start, end } = this.editor.terminal.dot(tag);
-    return start === from && end === from ? null : start;
+  #selectLine(number) {
+    this.#select(this.editor.active.shown.placeOf({ line: number - 1, ch: 0 }), "");
   }
 
-  /** Has the host look, by a command line. */
+  /** Has the host look, by a command line, from the end of the selection on. Returns what becomes its answer: the `dot`, or that it
+   * `isRefused`. */
   #askHost(command) {
-    const { terminal, active } = this.editor;
+    const { session, active } = this.editor;
     const { tag, selection } = active;
-    if (!terminal.isOpen(COMMAND)) terminal.openCmd();
-    terminal.select(tag, selection.end, selection.end);
-    terminal.work(tag);
-    terminal.type(COMMAND, `${command}\n`);
+    const asked = { tag, from: selection.end, dot: null, isRefused: false };
     this.editor.say("the host looks for it");
+    this.#ask(session, asked, command);
+    return asked;
   }
 
-  /** The host's answer is here: it has selected the place. */
-  #meetAnswer(value) {
-    const { terminal, active } = this.editor;
-    const { start, end } = terminal.dot(active.tag);
-    return end - start === runesOf(value) ? this.#selectLoaded(start, value) : this.#wrap(null, value);
+  async #ask(session, asked, command) {
+    const { tag, from } = asked;
+    try {
+      const selected = session.request(EventKind.SELECT, { tag, start: from, number: from });
+      await Promise.all([selected, session.run(tag, command)]);
+      asked.dot = session.client.file(tag).dot;
+    } catch {
+      asked.isRefused = true;
+    }
+    this.editor.update();
+  }
+
+  /** The host has selected the place, or none. */
+  #meetAnswer({ dot, isRefused }, value) {
+    if (dot === null && !isRefused) return AGAIN;
+    return dot !== null && dot.end - dot.start === runesOf(value) ? this.#selectLoaded(dot.start, value) : this.#wrap(null, value);
+  }
+
+  #meetLine({ dot, from, isRefused }, number) {
+    if (dot === null && !isRefused) return AGAIN;
+    const isFound = dot !== null && (dot.start !== from || dot.end !== from);
+    return isFound ? this.#selectLoaded(dot.start, "") : this.editor.say(`line ${number} is not there`);
   }
 
   /** Selects a text at a place, once that is loaded. */
   #selectLoaded(place, value) {
-    const { terminal, active, loading, line } = this.editor;
-    const end = Math.min(place + Math.max(1, runesOf(value)), terminal.len(active.tag));
-    if (terminal.bytes(active.tag, place, end).gaps === 0) return this.#select(place, value);
-    if (!line.isLate) loading.around(active.tag, place);
+    const { client, active } = this.editor;
+    const end = Math.min(place + Math.max(1, runesOf(value)), client.len(active.tag));
+    const gap = client.firstGap(active.tag, place);
+    if (gap === null || gap >= end) return this.#select(place, value);
+    this.editor.load(active.tag, place - PAGE, place + PAGE);
     return AGAIN;
   }
 }

@@ -1,4 +1,4 @@
-/* What a page shows of a file: pieces of its text, and gaps where it isn't loaded. Places of the terminal, which count runes, and positions
+/* What a page shows of a file: pieces of its text, and gaps where it isn't loaded. Places of the session, which count runes, and positions
  * of CodeMirror, which count lines and UTF-16 units, are found by each other here. */
 
 export const SHADE = "\ufffc"; // stands in CodeMirror's text for a gap, however long that is, and a line end after it

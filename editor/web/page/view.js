@@ -1,31 +1,30 @@
-/* A file as CodeMirror shows it: its document is made to say what the terminal holds, change by change. */
+/* A file as CodeMirror shows it: its document is made to say what the session shows, change by change. */
 import { Gap, SHADE, Shown, piecesOf, runesOf } from "./shown_text.js";
 
-export const OURS = "terminal"; // the origin of changes that say what the terminal holds already
+export const OURS = "session"; // the origin of changes that say what the session shows already
 const RUNES_IN_LINE = 40; // of a line that isn't loaded, as long as no other number is known
+const MOST_READ = 16_384; // runes that are looked at together for the end of a gap
+const PAGE = 4096; // runes that are loaded with what a window shows
 
-/** The pieces of a stretch of a terminal's text. */
-function read(terminal, tag, start, end) {
+/** The pieces of a stretch of a shown text. */
+function read(client, tag, start, end) {
   const pieces = [];
   for (let place = start; place < end; ) {
-    const gap = Math.min(end, terminal.firstGap(tag, place) ?? end);
-    pieces.push(...piecesOf(terminal.text(tag, place, gap - place)));
-    place = gap < end ? endOfGap(terminal, tag, gap, end) : end;
+    const gap = Math.min(end, client.firstGap(tag, place) ?? end);
+    pieces.push(...piecesOf(client.text(tag, place, gap - place)));
+    place = gap < end ? endOfGap(client, tag, gap, end) : end;
     if (place > gap) pieces.push(new Gap(place - gap));
   }
   return pieces;
 }
 
 /** Where a gap ends, or the stretch does in which it is sought. */
-export function endOfGap(terminal, tag, start, end) {
-  if (terminal.bytes(tag, start, end).gaps === end - start) return end;
-  let [low, high] = [start, end]; // all up to `low` is known to be a gap, and what is sought stands no later than `high`
-  while (low < high) {
-    const middle = Math.ceil((low + high) / 2);
-    if (terminal.bytes(tag, low, middle).gaps === middle - low) low = middle;
-    else high = middle - 1;
+function endOfGap(client, tag, start, end) {
+  for (let place = start; place < end; place += MOST_READ) {
+    const at = client.read(tag, place, Math.min(MOST_READ, end - place)).findIndex((rune) => rune !== null);
+    if (at >= 0) return place + at;
   }
-  return low;
+  return end;
 }
 
 /** The smallest change that holds two, the one after the other. */
@@ -42,23 +41,45 @@ function moved(place, { start, gone, came }) {
 }
 
 export class View {
-  isAsked = false; // the first text was asked for
+  #changes = []; // that are told, and not shown yet
 
-  constructor(terminal, tag, cm, doc) {
-    this.terminal = terminal;
+  constructor(client, tag, cm, doc) {
+    this.client = client;
     this.tag = tag;
     this.cm = cm;
     this.doc = doc;
     this.shown = new Shown();
   }
 
-  /** Shows changes of the terminal's text, each in the places of the text after the one before. One that is known to be a gap is not read,
-   * which would take long for a long one. */
+  /** Notes a change of the shown text. */
+  note({ kind, place, count, isGap }) {
+    const before = this.#changes.reduce((runes, { gone, came }) => runes - gone + came, this.shown.runes);
+    const changes = {
+      came: { start: place, gone: 0, came: count, isGap },
+      went: { start: place, gone: count, came: 0 },
+      filled: { start: place, gone: count, came: count },
+      emptied: { start: 0, gone: before, came: 0 },
+    };
+    const change = changes[kind];
+    if (change.gone > 0 || change.came > 0) this.#changes.push(change);
+  }
+
+  get hasChanges() {
+    return this.#changes.length > 0;
+  }
+
+  /** Shows all that is noted. */
+  showChanges() {
+    this.apply(this.#changes.splice(0));
+  }
+
+  /** Shows changes, each in the places of the text after the one before. One that is known to be a gap is not read, which would take long
+   * for a long one. */
   apply(changes) {
     const { start, gone, came, isGap } = changes.reduce(hull);
     if (gone === 0 && came === 0) return;
     const [from, to] = this.shown.widened(start, start + gone);
-    const pieces = isGap ? [new Gap(came)] : read(this.terminal, this.tag, start, start + came);
+    const pieces = isGap ? [new Gap(came)] : read(this.client, this.tag, start, start + came);
     if (from < start) pieces.unshift(new Gap(start - from));
     if (to > start + gone) pieces.push(new Gap(to - start - gone));
     this.#put(from, to - from, pieces, (place) => changes.reduce(moved, place));
@@ -66,8 +87,8 @@ export class View {
 
   /** Shows all of the text anew. */
   renew() {
-    const length = this.terminal.len(this.tag);
-    this.#put(0, this.shown.runes, read(this.terminal, this.tag, 0, length), (place) => Math.min(place, length));
+    const length = this.client.len(this.tag);
+    this.#put(0, this.shown.runes, read(this.client, this.tag, 0, length), (place) => Math.min(place, length));
   }
 
   /** Puts pieces in the place of a stretch. Both ends of the selection go where `moved` says: CodeMirror would move one that stands at the
@@ -188,6 +209,18 @@ export class View {
     act();
     const after = place === null ? this.cm.cursorCoords(true, "local").top : this.heightOf(place);
     if (Math.abs(after - before) >= 1) this.cm.scrollTo(null, top + after - before);
+  }
+
+  /** What the window shows of the text that isn't loaded, and a page beside it; null where it shows no shade. */
+  get unloaded() {
+    if (this.shown.firstGapLine === Infinity) return null;
+    const { top, clientHeight } = this.cm.getScrollInfo();
+    for (const { gap, start, y, height } of this.gapsBetween(top, top + clientHeight)) {
+      const runesOf = (pixels) => Math.floor((Math.max(0, Math.min(height, pixels)) / height) * gap.runes);
+      const from = start + Math.max(0, runesOf(top - y) - PAGE);
+      return { start: from, end: Math.min(start + gap.runes, start + runesOf(top + clientHeight - y) + PAGE) };
+    }
+    return null;
   }
 
   // ---- The selection

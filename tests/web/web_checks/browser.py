@@ -201,21 +201,21 @@ class Page:
 
     @property
     def held(self):
-        """What the terminal holds of the file that is shown."""
-        return self.js("sulgrevad.terminal.text(sulgrevad.active.tag)")
+        """What the session holds of the file that is shown."""
+        return self.js("sulgrevad.client.text(sulgrevad.active.tag)")
 
     def wait_for_text(self):
-        shown = "!!globalThis.sulgrevad?.active && sulgrevad.terminal.isOpen(sulgrevad.active.tag) && !sulgrevad.active.isFresh"
+        shown = "!!globalThis.sulgrevad?.active && !sulgrevad.active.isFresh"
         wait_until(lambda: self.js(shown), "no file is shown")
 
     def wait_until_settled(self):
         """Until the host has all, and has answered."""
-        rest = "sulgrevad.active && sulgrevad.isFree && !sulgrevad.lacks"
+        rest = "sulgrevad.active && sulgrevad.client.file(sulgrevad.active.tag).isFree && !sulgrevad.lacks"
         wait_until(lambda: self.js(rest), f"the page doesn't come to rest: {self.status}")
 
     def wait_until_loaded(self):
         tag = "sulgrevad.active.tag"
-        loaded = f"sulgrevad.active && sulgrevad.terminal.isOpen({tag}) && sulgrevad.terminal.firstGap({tag}) === null"
+        loaded = f"sulgrevad.active && sulgrevad.client.firstGap({tag}) === null"
         wait_until(lambda: self.js(loaded), "the file is not loaded whole", 4 * SECONDS)
 
     def log(self):
