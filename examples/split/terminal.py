@@ -38,17 +38,17 @@ class Window:
             self.told = str(why)
         self.draw()
 
-    async def press(self, key):
-        """Does what a key does. An edit waits until the file is free, and the next key waits for it: so it means what is shown."""
+    def press(self, key):
+        """Does what a key does, at once: also while the text is saved, and without a connection."""
         if key == "\x17":
             self.saving = asyncio.create_task(self.save(self.document.write()))
         elif key in (curses.KEY_LEFT, curses.KEY_RIGHT):
             place = self.caret - 1 if key == curses.KEY_LEFT else self.caret + 1
             self.caret = max(0, min(place, len(self.document)))
         elif key == curses.KEY_BACKSPACE:
-            await self.document.replace(max(0, self.caret - 1), self.caret, "")
+            self.document.replace(max(0, self.caret - 1), self.caret, "")
         elif isinstance(key, str):
-            await self.document.insert(self.caret, key)
+            self.document.insert(self.caret, key)
         self.draw()
 
     def read_keys(self):
@@ -62,7 +62,7 @@ class Window:
         self.document.on_change = self.change
         self.draw()
         while True:
-            await self.press(await self.keys.get())
+            self.press(await self.keys.get())
 
 
 async def main(screen, path):
