@@ -40,9 +40,9 @@ def lines_of_code(text):
 
 
 def check_split_editor_is_shown(_folder):
-    """The tutorial shows both programs of examples/split as they are, and they have 70 lines of code at most."""
+    """The tutorial shows both programs in Python of examples/split as they are, and they have 70 lines of code at most."""
     page = (ROOT / "docs/tutorials/SPLIT_EDITOR.md").read_text()
-    programs = sorted(path.name for path in SPLIT.iterdir() if path.is_file())
+    programs = sorted(path.name for path in SPLIT.glob("*.py"))
     expect(programs == ["host.py", "terminal.py"], f"examples/split has {programs}")
     texts = [(SPLIT / name).read_text() for name in programs]
     for name, text in zip(programs, texts):

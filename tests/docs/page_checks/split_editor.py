@@ -1,4 +1,4 @@
-"""The split editor of docs/tutorials/SPLIT_EDITOR.md, over a line that is slow and cut, with a terminal that is killed."""
+"""The split editors of examples/split, in Python and in C, over a line that is slow and cut, with a terminal or a host that is killed."""
 import contextlib
 import os
 import shlex
@@ -9,15 +9,18 @@ import subprocess
 import sys
 import threading
 import time
+from typing import List, NamedTuple
 
-from checks import ROOT, Failed, Skipped, expect, expect_equal, wait_until
+from checks import LIBRARY, ROOT, Failed, Skipped, expect, expect_equal, wait_until
 
 SPLIT = ROOT / "examples/split"
 NAME = "notes.txt"
 SETTING = {"PYTHONPATH": str(ROOT / "bindings/python"), "PYTHONDONTWRITEBYTECODE": "1", "LC_ALL": "C.UTF-8", "SHELL": "/bin/sh"}
+STOOD = 1.1  # seconds for which a connection stands, so that the pauses between connections begin anew
 DELAY = 0.15  # seconds that a byte takes each way on a slow line
 HELLO_BYTES = 42
 MOST_PIECE = 50  # bytes that are carried together, so that a cut falls between few of them
+CC = [*(os.environ.get("CC") or "cc").split(), "-std=c11", "-Wall", "-Wextra", "-Wpedantic", "-Wshadow", "-Werror", "-O1"]
 REST = 1.0  # seconds in which a terminal that has something to send sends a piece of it
 
 
@@ -25,7 +28,7 @@ class Line:
     """A line to the host's socket, which can be slow, and cut. What is on it then is lost."""
 
     def __init__(self, place, host):
-        self.host, self.delay, self.is_cut, self.connections = str(host), 0.0, False, []
+        self.host, self.delay, self.is_cut, self.connections = host, 0.0, False, []
         self.sent = 0  # bytes to the host over the newest connection
         self.count = 0  # of all connections
         self.lock = threading.Lock()
@@ -42,7 +45,11 @@ class Line:
                     near.close()
                     continue
                 far = socket.socket(socket.AF_UNIX)
-                far.connect(self.host)
+                try:
+                    far.connect(str(self.host.place))
+                except OSError:  # it was killed
+                    near.close()
+                    continue
                 self.connections += [near, far]
                 self.sent = 0
                 self.count += 1
@@ -82,10 +89,10 @@ class Line:
 class Screen:
     """A terminal of the split editor on a screen of its own."""
 
-    def __init__(self, folder, place):
+    def __init__(self, folder, pair, place):
         self.words = ["tmux", "-S", str(folder / f"{place.name}.tmux"), "-f", "/dev/null", "-u"]
         self.stderr = folder / f"{place.name}.stderr"
-        command = f"exec {shlex.join([sys.executable, str(SPLIT / 'terminal.py'), str(place)])} 2> {shlex.quote(str(self.stderr))}"
+        command = f"exec {shlex.join([*pair.terminal, str(place)])} 2> {shlex.quote(str(self.stderr))}"
         setting = dict(os.environ, **SETTING)
         words = [*self.words, "new-session", "-d", "-x", "80", "-y", "24", command]
         wait_until(lambda: subprocess.run(words, env=setting, cwd=folder, capture_output=True).returncode == 0, "tmux doesn't begin")
@@ -124,28 +131,68 @@ class Screen:
         subprocess.run([*self.words, "kill-server"], capture_output=True)
 
 
+class Pair(NamedTuple):
+    """The commands of a host and of a terminal."""
+
+    host: List[str]
+    terminal: List[str]
+
+
+def in_python(_folder):
+    return Pair(*([sys.executable, str(SPLIT / f"{name}.py")] for name in Pair._fields))
+
+
+def in_c(folder):
+    """The pair in C, which is compiled here."""
+    if not shutil.which(CC[0]):
+        raise Skipped(f"{CC[0]} is not installed")
+    for name in Pair._fields:
+        words = [*CC, f"-I{ROOT / 'include'}", str(SPLIT / f"{name}.c"), str(LIBRARY.with_name("libsulgrevad.a")), "-o", str(folder / name)]
+        ran = subprocess.run(words, capture_output=True, text=True)
+        expect(ran.returncode == 0, ran.stderr)
+    return Pair(*([str(folder / name)] for name in Pair._fields))
+
+
+class Host:
+    """The host of a pair, which may be killed and started again."""
+
+    def __init__(self, folder, pair):
+        self.folder, self.pair, self.place = folder, pair, folder / f"{NAME}.socket"
+        self.start()
+
+    def start(self):
+        setting = dict(os.environ, **SETTING)
+        self.place.unlink(missing_ok=True)
+        with open(self.folder / "host.stderr", "w") as told:
+            self.process = subprocess.Popen([*self.pair.host, NAME], cwd=self.folder, env=setting, stderr=told)
+        wait_until(lambda: self.place.exists() or self.process.poll() is not None, "the host doesn't begin")
+        self.expect_alive()
+
+    def expect_alive(self):
+        expect(self.process.poll() is None, f"the host has ended: {(self.folder / 'host.stderr').read_text()}")
+
+    def kill(self):
+        self.process.kill()
+        self.process.wait()
+
+
 @contextlib.contextmanager
-def served(folder, text):
+def served(folder, pair, text):
     """A host with this text, and a line to it."""
     if not shutil.which("tmux"):
         raise Skipped("tmux is not installed")
     (folder / NAME).write_text(text)
-    setting = dict(os.environ, **SETTING)
-    with open(folder / "host.stderr", "w") as told:
-        host = subprocess.Popen([sys.executable, SPLIT / "host.py", NAME], cwd=folder, env=setting, stderr=told)
+    host = Host(folder, pair)
     try:
-        wait_until(lambda: (folder / f"{NAME}.socket").exists() or host.poll() is not None, "the host doesn't begin")
-        expect(host.poll() is None, f"the host has ended: {(folder / 'host.stderr').read_text()}")
-        yield Line(folder / "line", folder / f"{NAME}.socket")
-        expect(host.poll() is None, f"the host has ended: {(folder / 'host.stderr').read_text()}")
+        yield Line(folder / "line", host)
+        host.expect_alive()
     finally:
         host.kill()
-        host.wait()
 
 
 @contextlib.contextmanager
-def shown(folder, place="line"):
-    screen = Screen(folder, folder / place)
+def shown(folder, pair, place="line"):
+    screen = Screen(folder, pair, folder / place)
     try:
         yield screen
     finally:
@@ -159,9 +206,9 @@ def saved(folder, screen, text):
     wait_until(lambda: (folder / NAME).read_text() == text, lambda: f"the file is {(folder / NAME).read_text()!r}, not {text!r}")
 
 
-def check_split_editor(folder):
+def goes_on(folder, pair):
     """Over a slow line that is cut nine times, also while keys are typed, screen and disk have the same text at the end."""
-    with served(folder, "Shopping\n") as line, shown(folder) as screen:
+    with served(folder, pair, "Shopping\n") as line, shown(folder, pair) as screen:
         screen.wait_for("Shopping\n")
         screen.wait_for_state("")
         screen.press(*["Right"] * 9)
@@ -182,14 +229,32 @@ def check_split_editor(folder):
             if number % 3 != 2:
                 screen.wait_for_state("")
         screen.press("BSpace", "BSpace", "x", "Enter")
-        screen.press("C-w", "a", "b", "BSpace", "Enter")  # after the write keys wait for its answer, and then mean what is shown
+        screen.press("C-w", "a", "b", "BSpace", "Enter")
         saved(folder, screen, typed[:-2] + "x\na\n")
 
 
-def check_split_editor_is_killed(folder):
+def shows_at_once(folder, pair):
+    """Keys show at once while the text is saved, though the host doesn't answer; and what is saved is without them."""
+    with served(folder, pair, "Shopping\n") as line, shown(folder, pair) as screen:
+        screen.wait_for("Shopping\n")
+        screen.type("now ")
+        screen.wait_for("now Shopping\n")
+        line.wait_for_rest()
+        os.kill(line.host.process.pid, signal.SIGSTOP)
+        try:
+            screen.press("C-w")
+            screen.type("and then ")
+            screen.wait_for("now and then Shopping\n")
+        finally:
+            os.kill(line.host.process.pid, signal.SIGCONT)
+        wait_until(lambda: (folder / NAME).read_text() == "now Shopping\n", lambda: f"the file is {(folder / NAME).read_text()!r}")
+        saved(folder, screen, "now and then Shopping\n")
+
+
+def is_killed(folder, pair):
     """A terminal is killed, and the next one has all that has come to the host. It saves that."""
-    with served(folder, "Shopping\n") as line:
-        with shown(folder) as screen:
+    with served(folder, pair, "Shopping\n") as line:
+        with shown(folder, pair) as screen:
             screen.wait_for("Shopping\n")
             screen.type("not saved: ")
             screen.wait_for("not saved: Shopping\n")
@@ -198,15 +263,15 @@ def check_split_editor_is_killed(folder):
             line.wait_for_rest()
             screen.kill()
         expect_equal((folder / NAME).read_text(), "Shopping\n")
-        with shown(folder) as screen:
+        with shown(folder, pair) as screen:
             screen.wait_for("not saved: Shopping\n")
             screen.type("now ")
             saved(folder, screen, "now not saved: Shopping\n")
 
 
-def check_split_editor_save_fails(folder):
+def save_fails(folder, pair):
     """A write that fails is told, and loses nothing: a second try writes the text."""
-    with served(folder, "Shopping\n") as line, shown(folder) as screen:
+    with served(folder, pair, "Shopping\n") as line, shown(folder, pair) as screen:
         screen.wait_for("Shopping\n")
         screen.type("now ")
         screen.wait_for("now Shopping\n")
@@ -221,14 +286,14 @@ def check_split_editor_save_fails(folder):
         expect_equal(line.count, 1)
 
 
-def taken_over(folder, is_cut):
+def is_taken_over(folder, pair, is_cut):
     """A second terminal takes the text over. The first one, with a connection or without, is refused, and what it types changes nothing."""
-    with served(folder, "Shopping\n") as line, shown(folder) as first:
+    with served(folder, pair, "Shopping\n") as line, shown(folder, pair) as first:
         first.wait_for("Shopping\n")
         if is_cut:
             line.cut()
             first.wait_for_state("no connection")
-        with shown(folder, f"{NAME}.socket") as second:
+        with shown(folder, pair, f"{NAME}.socket") as second:
             second.wait_for("Shopping\n")
             second.type("new ")
             saved(folder, second, "new Shopping\n")
@@ -240,9 +305,70 @@ def taken_over(folder, is_cut):
             saved(folder, second, "new and Shopping\n")
 
 
+def check_split_editor(folder):
+    goes_on(folder, in_python(folder))
+
+
+def check_split_editor_in_c(folder):
+    goes_on(folder, in_c(folder))
+
+
+def check_split_editor_shows_at_once(folder):
+    shows_at_once(folder, in_python(folder))
+
+
+def check_split_editor_in_c_shows_at_once(folder):
+    shows_at_once(folder, in_c(folder))
+
+
+def check_split_editor_is_killed(folder):
+    is_killed(folder, in_python(folder))
+
+
+def check_split_editor_in_c_is_killed(folder):
+    is_killed(folder, in_c(folder))
+
+
+def check_split_editor_in_c_host_is_killed(folder):
+    """The host is killed eight times, while keys are typed, and goes on: what was typed is on the screen, and then on the disk."""
+    pair, typed = in_c(folder), ""
+    with served(folder, pair, "Shopping\n") as line, shown(folder, pair) as screen:
+        screen.wait_for("Shopping\n")
+        for number in range(8):
+            for letter in f"w{number} ":  # each in a record of its own
+                screen.type(letter)
+                time.sleep(DELAY * (number % 3) / 3)
+            line.host.kill()
+            screen.type("x ")
+            typed += f"w{number} x "
+            screen.wait_for(f"{typed}Shopping\n")
+            if number % 2:
+                screen.press("C-w")
+            line.host.start()
+            screen.wait_for_state("")
+            time.sleep(STOOD)
+        saved(folder, screen, f"{typed}Shopping\n")
+
+
+def check_split_editor_save_fails(folder):
+    save_fails(folder, in_python(folder))
+
+
+def check_split_editor_in_c_save_fails(folder):
+    save_fails(folder, in_c(folder))
+
+
 def check_split_editor_taken_over(folder):
-    taken_over(folder, False)
+    is_taken_over(folder, in_python(folder), False)
+
+
+def check_split_editor_in_c_taken_over(folder):
+    is_taken_over(folder, in_c(folder), False)
 
 
 def check_split_editor_taken_over_without_a_connection(folder):
-    taken_over(folder, True)
+    is_taken_over(folder, in_python(folder), True)
+
+
+def check_split_editor_in_c_taken_over_without_a_connection(folder):
+    is_taken_over(folder, in_c(folder), True)

@@ -10,8 +10,6 @@ sys.path.append(str(ROOT / "tests/web"))
 from web_checks.needed import missing  # noqa: E402
 
 SIZE = (1200, 1000)  # of a window that shows all of a text
-# A move is refused, and says so, where the line is lost for seconds and the file is locked: then the user waits.
-MAY_MOVE = "sulgrevad.isFree || !sulgrevad.line.isLate"
 LINES = """[...document.querySelectorAll(".CodeMirror-code .CodeMirror-line")]
   .map((line) => line.textContent.replaceAll("\\u200b", "").trimEnd())"""  # which stands in a line that is empty
 
@@ -76,7 +74,6 @@ class Page(Front):
 
     def press(self, row, column, *keys):
         """Goes to a place, and presses keys there."""
-        wait_until(lambda: self.page.js(MAY_MOVE), lambda: f"the line doesn't come back: {self.screen()}")
         moves = [self.keys.ARROW_DOWN] * row + [self.keys.ARROW_RIGHT] * column
         self.page.press([(self.keys.CONTROL, self.keys.HOME), *moves, *keys])
 
