@@ -1465,7 +1465,7 @@ SAM_MUST_USE sam_status sam_line_words(sam_line *line, uint8_t *into, size_t roo
  * Before it leaves, a program looks at sam_client_has_all. `now` is the time, as for a line: milliseconds of any clock that doesn't jump.
  * The structs and the numbers are those of an overlay (sam_splice, sam_event), of a terminal (sam_did, sam_state, sam_file) and of a line
  * (enum sam_tick, sam_line_details). docs/howto/EMBEDDING.md has the loop. Of these calls sam_client_new, _receive, _acknowledge,
- * _next_event, _put_note, _replace, _ask and _drop_next take memory, the others none. */
+ * _next_event, _step_edits, _put_note, _replace, _replace_each, _ask and _drop_next take memory, the others none. */
 
 /* What a client tells as it goes on. */
 enum sam_client_event {
@@ -1478,6 +1478,25 @@ enum sam_client_event {
     SAM_CLIENT_WIDTH = 0x7FFFFFFF /* never handed out: it keeps the type at 32 bits under any compiler's options */
 };
 typedef enum sam_client_event sam_client_event;
+
+/* One of several replacements: the shown runes from the place `start` to the place `end` give way to the next `count` runes of a text. */
+struct sam_replacement {
+    uint32_t start;
+    uint32_t end;
+    uint32_t count;
+};
+typedef struct sam_replacement sam_replacement;
+
+/* Room for the changes that many steps made, which the caller lends. The library counts what it puts there. */
+struct sam_changes {
+    sam_splice *splices;
+    size_t most; /* how many splices there is room for */
+    size_t got;
+    uint32_t *runes; /* of each splice of SAM_SPLICE_CAME or SAM_SPLICE_FILLED its runes, one after another */
+    size_t room;     /* how many runes there is room for */
+    size_t used;
+};
+typedef struct sam_changes sam_changes;
 
 /* ---- A client: making and freeing ---- */
 
@@ -1545,6 +1564,15 @@ SAM_MUST_USE sam_status sam_client_acknowledge(sam_client *client);
  * call or before, SAM_STREAM.. or SAM_TERM_REFUSED..; SAM_COUNT_FULL; SAM_UNFINISHED if memory is short: call it again later. */
 SAM_MUST_USE sam_status sam_client_next_event(sam_client *client, uint64_t now, sam_client_event *kind, sam_did *did);
 
+/* Goes on as sam_client_next_event does, and over each step that is an edit: of the host's (Hgrowdata, Hcut), of runes that are loaded
+ * (Hdata), or one of the user's that acted, which made no splice. Hands out their splices in their order, each with the runes that it
+ * brought, SAM_GAP for one that is not loaded. It stops behind the first event that is none of these, and hands that out; its splices are
+ * left for sam_client_next_splice. SAM_CLIENT_IDLE comes only if no step was made, else SAM_CLIENT_BUSY in its place. That comes, too,
+ * after `most` steps, and where there is no room for a splice or for the 512 runes that a frame may bring. If the room ends in a step, it
+ * hands out SAM_CLIENT_STEPPED and that step, and the rest of its splices is left, if there is more. It refuses as sam_client_next_event
+ * does, in its order, and the counts say then what was handed out before; after SAM_NO_HANDLE they are as they were. */
+SAM_MUST_USE sam_status sam_client_step_edits(sam_client *client, uint64_t now, sam_changes *changes, sam_client_event *kind, sam_did *did);
+
 /* Hands out the next change of the shown text by the last step. Returns SAM_NONE if none is left. */
 SAM_MUST_USE sam_status sam_client_next_splice(sam_client *client, sam_splice *splice);
 
@@ -1565,6 +1593,15 @@ SAM_MUST_USE sam_status sam_client_put_note(sam_client *client, const uint8_t *b
  * that was asked for before finds them. Its refusals are those of sam_overlay_replace, in its order; but before its SAM_REFUSAL_EXITED
  * comes that if a request waits that ends the session, and then SAM_REFUSAL_NOT_OPEN if one waits that closes the file. */
 SAM_MUST_USE sam_status sam_client_replace(sam_client *client, uint16_t tag, uint32_t start, uint32_t end, const uint8_t *text, size_t len);
+
+/* Makes replacements of a file, one after another, each as sam_client_replace does: its places are those of the text that the ones before
+ * it have left. So from the last place to the first, all are places of the text before. The text has the runes of all of them, in their
+ * order. It stops in front of the first one that is refused, and *made counts those before. Refused, in this order, and none is made then:
+ * SAM_NO_HANDLE, after which *made is as it was; SAM_NOT_TEXT if the text is not UTF-8; SAM_NO_MEMORY if there is no memory for its runes;
+ * SAM_NOT_TEXT if it has more runes or fewer than the replacements take; SAM_WAITING if splices are left. Then come the refusals of
+ * sam_client_replace for the first one that is refused. */
+SAM_MUST_USE sam_status sam_client_replace_each(sam_client *client, uint16_t tag, const sam_replacement *replacements, size_t count,
+                                                const uint8_t *text, size_t len, size_t *made);
 
 /* Asks for what is no edit: an event of an overlay (enum sam_event_kind), with its text if it brings one. It stands in one order with the
  * edits: it acts as the client goes on, once all edits before it are put, and finds the text that is shown now, with the host's changes

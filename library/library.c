@@ -1,9 +1,9 @@
-/* The calls of the library that are C, and not proved: its version, words for a status, a loop of proved calls, and one that hands a proved
- * call the lengths beside the pointers. */
+/* The calls of the library that are C, and not proved: its version, words for a status, two loops of proved calls, and one that hands a
+ * proved call the lengths beside the pointers. */
 #include "sulgrevad.h"
 
-/* The kinds of the frames that edit a text, by their numbers on the wire. */
-enum { HGROWDATA = 77, HCUT = 81 };
+/* The kinds of the frames that edit a text or load it, by their numbers on the wire; and how many runes one brings at most. */
+enum { HDATA = 73, HGROWDATA = 77, HCUT = 81, MOST_RUNES = 512 };
 
 uint32_t sam_library_version(void)
 {
@@ -137,6 +137,66 @@ sam_status sam_term_step_edits(sam_term *term, uint32_t first, sam_did *did, siz
         if (did[*got].step == SAM_STEP_RECEIVED) /* else it wrote what was left over */
             ++*got;
     }
+    return SAM_OK;
+}
+
+/* Whether a step edits a text or loads it: by a frame, or by an edit of the user's that is shown already. */
+static bool is_edit(sam_client_event kind, const sam_did *did)
+{
+    if (kind != SAM_CLIENT_STEPPED)
+        return false;
+    if (did->step == SAM_STEP_RECEIVED)
+        return did->kind == HDATA || did->kind == HGROWDATA || did->kind == HCUT;
+    return did->step == SAM_STEP_ACTED && did->tag != 0 && (did->gone > 0 || did->came > 0);
+}
+
+static bool has_room(const sam_changes *changes)
+{
+    return changes->got < changes->most && changes->room - changes->used >= MOST_RUNES;
+}
+
+/* Takes the splices of the last step, each with the runes that it brought, until there is no room: SAM_OK. SAM_NONE if none is left. */
+static sam_status take_splices(sam_client *client, sam_changes *changes)
+{
+    sam_status status = SAM_OK;
+
+    while (status == SAM_OK && has_room(changes)) {
+        sam_splice *splice = &changes->splices[changes->got];
+        uint32_t count = 0;
+        status = sam_client_next_splice(client, splice);
+        if (status != SAM_OK)
+            break;
+        if (splice->kind != SAM_SPLICE_WENT) {
+            size_t room = changes->room - changes->used;
+            room = splice->count < room ? splice->count : room; /* no frame of these brings more than there is room for */
+            status = sam_client_read(client, splice->tag, splice->place, &changes->runes[changes->used], room, &count);
+        }
+        changes->used += count;
+        ++changes->got;
+    }
+    return status;
+}
+
+sam_status sam_client_step_edits(sam_client *client, uint64_t now, sam_changes *changes, sam_client_event *kind, sam_did *did)
+{
+    size_t requests;
+    sam_status status = sam_client_requests(client, &requests); /* it tells whether the handle is made */
+
+    if (status != SAM_OK)
+        return status;
+    changes->got = changes->used = 0;
+    for (size_t steps = 0; steps < changes->most && has_room(changes); ++steps) {
+        status = sam_client_next_event(client, now, kind, did);
+        if (status == SAM_OK && *kind == SAM_CLIENT_IDLE && steps > 0)
+            *kind = SAM_CLIENT_BUSY;
+        if (status != SAM_OK || !is_edit(*kind, did))
+            return status;
+        status = take_splices(client, changes);
+        if (status != SAM_NONE)
+            return status;
+    }
+    *kind = SAM_CLIENT_BUSY;
+    *did = (sam_did){.step = SAM_STEP_IDLE};
     return SAM_OK;
 }
 

@@ -60,7 +60,7 @@ program that goes on after a signal has a handler that only notes it. A `MemoryE
 `add_file`, too; but nothing that a link hands out.
 """
 from sulgrevad.carrier import MOST_NOTE
-from sulgrevad.client import Client, ClientEvent, ClientEventKind
+from sulgrevad.client import Client, ClientEvent, ClientEventKind, Replacement, ShownEdit
 from sulgrevad.edits import Edit, Edits, Pieces
 from sulgrevad.host import Host
 from sulgrevad.line import Line, LineDetails, Tick
@@ -106,7 +106,7 @@ __all__ = [
     "DurableServer", "Edit", "EditRefused", "Edits", "Effect", "EffectKind", "EventKind", "FileState", "HandleFault", "Hello",
     "Host", "HostDid", "HostRefused", "Kind", "Line", "LineDetails", "Link", "LinkFault", "MarkRefused", "Missing", "NextFrame",
     "NoMemory", "NotText", "Note", "NoteCode", "NoteFault", "NoteKind", "Overlay", "Pieces", "Put", "Recovery", "Refusal",
-    "SamError", "ScriptFault", "ServerFault", "Splice", "SpliceKind", "Status", "Step", "StreamFault", "Terminal",
-    "TerminalDid", "TerminalRefused", "TerminalState", "Tick", "TooMany", "Unfinished", "Waiting", "What", "error_of",
+    "Replacement", "SamError", "ScriptFault", "ServerFault", "ShownEdit", "Splice", "SpliceKind", "Status", "Step", "StreamFault",
+    "Terminal", "TerminalDid", "TerminalRefused", "TerminalState", "Tick", "TooMany", "Unfinished", "Waiting", "What", "error_of",
     "library_version", "read_hello", "read_note", "recover", "replay", "status_text", "write_note", "write_refusal",
 ]  # fmt: skip

@@ -51,6 +51,21 @@ class CSplice(ctypes.Structure):
     _fields_ = [("kind", c_uint32), ("place", c_uint32), ("count", c_uint32), ("tag", c_uint16)]
 
 
+class CReplacement(ctypes.Structure):
+    """sam_replacement: one of several replacements."""
+
+    _fields_ = [("start", c_uint32), ("end", c_uint32), ("count", c_uint32)]
+
+
+class CChanges(ctypes.Structure):
+    """sam_changes: room for the changes that many steps made."""
+
+    _fields_ = [
+        ("splices", POINTER(CSplice)), ("most", c_size_t), ("got", c_size_t),
+        ("runes", POINTER(c_uint32)), ("room", c_size_t), ("used", c_size_t),
+    ]  # fmt: skip
+
+
 class CEvent(ctypes.Structure):
     """sam_event: an event of the user, for an overlay."""
 
@@ -177,7 +192,9 @@ SIGNATURES: Dict[str, Tuple[Any, ...]] = {
     "client_address_changed": (c_uint64,), "client_expect": (c_bool, c_uint64), "client_receive": (c_uint64, *_BYTES, c_uint64),
     "client_take_out": (c_uint64, *_BUFFER, _SIZE), "client_acknowledge": (), "client_next_event": (c_uint64, _U32, _DID),
     "client_next_splice": (POINTER(CSplice),), "client_note": (*_BUFFER, _SIZE), "client_put_note": (*_BYTES, c_uint64),
+    "client_step_edits": (c_uint64, POINTER(CChanges), _U32, _DID),
     "client_replace": (c_uint16, c_uint32, c_uint32, *_BYTES), "client_ask": (POINTER(CEvent), *_BYTES),
+    "client_replace_each": (c_uint16, POINTER(CReplacement), c_size_t, *_BYTES, _SIZE),
     "client_drop_next": (c_uint16, POINTER(CSplice), *_BUFFER, _SIZE), "client_has_all": (_BOOL,),
     "client_is_unsaved": (c_uint16, _BOOL), "client_requests": (_SIZE,),
     "client_describe": (c_uint64, POINTER(Details)), "client_words": (*_BUFFER, _SIZE),

@@ -1,15 +1,29 @@
 """The user's side of a session: an overlay, and its line to the host."""
 import ctypes
 import enum
+import sys
 from ctypes import byref, c_size_t, c_uint32
-from typing import Iterator, NamedTuple, Optional, Union
+from typing import Iterator, List, NamedTuple, Optional, Sequence, Tuple, Union
 
-from sulgrevad._library import Did, Text, bytes_of
+from sulgrevad._library import CChanges, CReplacement, CSplice, Did, Text, bytes_of
 from sulgrevad.carrier import MOST_NOTE, Bytes, id_of
+from sulgrevad.edits import EDITING, text_of
 from sulgrevad.line import Clocked
-from sulgrevad.overlay import EventKind, Shown, Splice, did_of, event_of
+from sulgrevad.overlay import EventKind, Shown, Splice, SpliceKind, did_of, event_of
 from sulgrevad.results import TerminalDid
-from sulgrevad.sides import Stopping
+from sulgrevad.sides import Stopping, index
+from sulgrevad.status import EditRefused, Kind, NoMemory
+
+MOST_EDITS = 2_048  # steps that one call of `edits` makes
+MOST_RUNES = 65_536  # that they bring
+
+# A change of a shown text: a number of SpliceKind, the file, the place, how many runes or gaps, and those that came or were loaded.
+ShownEdit = Tuple[int, int, int, int, str]
+Replacement = Tuple[int, int, str]  # the places where the runes that go begin and end, and the text that comes
+
+_WORDS = ctypes.sizeof(CSplice) // ctypes.sizeof(c_uint32)  # of a sam_splice
+_WENT = int(SpliceKind.WENT)
+_FOLLOWED = (Kind.HDATA, *EDITING)  # frames that edit a text or load it
 
 
 class ClientEventKind(enum.IntEnum):
@@ -34,6 +48,25 @@ class ClientEvent(NamedTuple):
 KINDS = tuple(ClientEventKind)  # by their numbers
 
 
+class _EditReader:
+    """Room for what `step_edits` hands out: a command line may edit thousands of places, and a text comes in thousands of frames."""
+
+    def __init__(self) -> None:
+        self._splices, self._runes = (CSplice * MOST_EDITS)(), (c_uint32 * MOST_RUNES)()
+        self.changes = CChanges(self._splices, MOST_EDITS, 0, self._runes, MOST_RUNES, 0)
+
+    def take(self, into: List[ShownEdit], gap: str) -> None:
+        """Puts what was handed out behind the edits in a list."""
+        got = self.changes.got
+        if got == 0:
+            return
+        words = memoryview(ctypes.string_at(self._splices, got * ctypes.sizeof(CSplice))).cast("I")
+        text, at = text_of(self._runes, self.changes.used, gap), 0
+        for kind, place, count, tag in zip(words[0::_WORDS], words[1::_WORDS], words[2::_WORDS], words[3::_WORDS]):
+            start, at = at, at + (0 if kind == _WENT else count)
+            into.append((kind, tag & 0xFFFF if sys.byteorder == "little" else tag >> 16, place, count, text[start:at]))
+
+
 class Client(Clocked, Shown, Stopping):
     """The user's side of a session in one handle, for a front end whose user never waits, over connections that may break: an overlay, and
     its line to the host. It moves all between the two by itself. It opens no connection and has no clock: calls take the time, in
@@ -55,6 +88,7 @@ class Client(Clocked, Shown, Stopping):
     """
 
     _prefix = "sam_client"
+    _reader: Optional["_EditReader"] = None
 
     def __init__(self, id: Bytes, take_over: bool, now: int) -> None:
         """Makes a client that knows no file, and whose first connection is due at once. The id is the session's name: 16 bytes that the
@@ -72,6 +106,25 @@ class Client(Clocked, Shown, Stopping):
         number, did = c_uint32(), Did()
         self._call("next_event", now, byref(number), byref(did))
         kind = KINDS[number.value]
+        return ClientEvent(kind, did_of(did) if kind in (ClientEventKind.STEPPED, ClientEventKind.REFUSED) else None)
+
+    def edits(self, now: int, into: List[ShownEdit], gap: str = "\N{REPLACEMENT CHARACTER}") -> ClientEvent:
+        """Goes on as `next_event`, but over each step that is an edit of the host's, loads runes, or is an edit of the user's that acted,
+        at most 2,048: puts their splices behind those that are in the list, each with the runes that it brought, `gap` for one that is
+        not loaded. Returns what is told else; its splices are to be taken. It is IDLE only if no step was made. That takes less time if
+        there are thousands. Raises as `next_event` does; the splices before are in the list then."""
+        reader = self._reader = self._reader or _EditReader()
+        number, did = c_uint32(), Did()
+        try:
+            self._call("step_edits", now, byref(reader.changes), byref(number), byref(did))
+        finally:
+            reader.take(into, gap)
+            reader.changes.got = 0
+        kind = KINDS[number.value]
+        if kind == ClientEventKind.STEPPED and did.kind in _FOLLOWED:  # there was no room for more
+            for what, tag, place, count in self.splices():
+                into.append((what, tag, place, count, "" if what == SpliceKind.WENT else self.runes(tag, place, count, gap)))
+            kind = ClientEventKind.BUSY
         return ClientEvent(kind, did_of(did) if kind in (ClientEventKind.STEPPED, ClientEventKind.REFUSED) else None)
 
     def go_on(self, now: int) -> Iterator[Union[ClientEvent, Splice]]:
@@ -106,6 +159,22 @@ class Client(Clocked, Shown, Stopping):
         (EXITED) comes that if a request waits that ends the session, and then EditRefused (NOT_OPEN) if one waits that closes the file."""
         text = bytes_of(text)
         self._call("replace", tag, start, end, text, len(text))
+
+    def replace_each(self, tag: int, replacements: Sequence[Replacement]) -> int:
+        """Makes replacements one after another, each as `replace` does, by one call: the places of each are those of the text that the ones
+        before it have left. Returns how many were made: all, or those before one that is refused, for which `replace` says why. Raises, and
+        none is made then: ValueError for a number below 0; NotText; NoMemory; Waiting; what refuses the first one."""
+        text = "".join([came for _, _, came in replacements]).encode("utf-8", "surrogatepass")
+        rows = (CReplacement * len(replacements))()
+        for row, (start, end, came) in zip(rows, replacements):
+            row.start, row.end, row.count = index(c_uint32, start), index(c_uint32, end), len(came)
+        made = c_size_t()
+        try:
+            self._call("replace_each", tag, rows, len(rows), text, len(text), byref(made))
+        except (EditRefused, NoMemory):
+            if made.value == 0:
+                raise
+        return made.value
 
     def ask(
         self, kind: EventKind, tag: int = 0, start: int = 0, number: int = 0, *, version: int = 0, text: Text = ""

@@ -89,10 +89,11 @@ def _with_gaps(data: bytes, gap: str) -> str:
     return "".join([gap if piece == _NOT_LOADED else _DECODE(piece)[0] for piece in pieces])
 
 
-def read_runes(handle: Handle, tag: int, place: int, count: int, gap: str) -> str:
-    """Returns the runes of an open file from a place on, at most `count`, with `gap` for each that is not loaded. Raises Missing."""
+def read_runes(read: Any, handle: Handle, tag: int, place: int, count: int, gap: str) -> str:
+    """Returns the runes of an open file from a place on, at most `count`, with `gap` for each that is not loaded, as a call of the library
+    reads them. Raises Missing."""
     into, got = (c_uint32 * (1 << max(count - 1, LEAST).bit_length()))(), c_uint32()  # Python makes a type for each length of an array
-    code = LIBRARY.sam_term_read(byref(handle), tag, place, into, count, byref(got))
+    code = read(byref(handle), tag, place, into, count, byref(got))
     if code != _OK:
         raise error_of(code)
     return text_of(into, got.value, gap)
@@ -146,7 +147,7 @@ class _Receiver:
         return Edits(self._tag or 0, starts, Pieces(before, [*map(sub, starts, repeat(first))], gone), Pieces(after, places, came)), code
 
     def _read(self, place: int, count: int) -> str:
-        return read_runes(self._handle, self._tag or 0, place, count, self._gap) if count else ""
+        return read_runes(LIBRARY.sam_term_read, self._handle, self._tag or 0, place, count, self._gap) if count else ""
 
 
 def received(handle: Handle, gap: str) -> Iterator[Edits]:

@@ -143,10 +143,6 @@ class Shown(Screen):
         or if all are loaded from there on."""
         return self._number_if_any("first_gap", c_uint32, tag, place)
 
-    def len(self, tag: int) -> int:
-        """Returns the length of the shown text of an open file in runes, gaps counted. Raises Missing if the file is not open."""
-        return self._number("len", c_uint32, tag)
-
     def read(self, tag: int, place: int, count: int) -> List[Optional[str]]:
         """Returns the shown runes of an open file from the place `place` on, at most `count`; None stands for one that is not loaded.
         Raises Missing if the file is not open, and ValueError if a number is below 0."""

@@ -70,6 +70,18 @@ class Screen(Texts):
         all. Raises Missing if the file is not open."""
         return self._long_text("text", place, runes, tag)
 
+    def len(self, tag: int) -> int:
+        """Returns the length of the text of an open file in runes, gaps counted; of an overlay or a client that of the shown text. Raises
+        Missing if the file is not open."""
+        return self._number("len", c_uint32, tag)
+
+    def runes(self, tag: int, place: int, count: int, gap: str = "\N{REPLACEMENT CHARACTER}") -> str:
+        """Returns the same runes as `read`, as a text in which `gap` stands for one that is not loaded. Raises as `read` does."""
+        if place < 0 or count < 0:
+            raise ValueError(f"{min(place, count)} is below 0")
+        read = getattr(LIBRARY, f"{self._prefix}_read")
+        return read_runes(read, self._handle, tag, place, least(count, max(0, self.len(tag) - place)), gap)
+
     @property
     def pattern(self) -> str:
         """Returns the pattern that the host reported last."""
@@ -310,10 +322,6 @@ class Terminal(Side, Screen, Refusals):
         """Returns whether a file is open."""
         return self._truth("is_open", tag)
 
-    def len(self, tag: int) -> int:
-        """Returns the length of an open file in runes, gaps counted. Raises Missing if the file is not open."""
-        return self._number("len", c_uint32, tag)
-
     def read(self, tag: int, place: int, count: int) -> List[Optional[str]]:
         """Returns the runes of an open file from the place `place` on, at most `count`; None stands for one that is not loaded. Raises
         Missing if the file is not open, and ValueError if a number is below 0."""
@@ -327,12 +335,6 @@ class Terminal(Side, Screen, Refusals):
             into, got = (c_uint32 * room)(), c_uint32()
             self._call("read", tag, place, into, room, byref(got))
         return [None if rune == GAP else chr(rune) for rune in into[: got.value]]
-
-    def runes(self, tag: int, place: int, count: int, gap: str = "\N{REPLACEMENT CHARACTER}") -> str:
-        """Returns the same runes as `read`, as a text in which `gap` stands for one that is not loaded. Raises as `read` does."""
-        if place < 0 or count < 0:
-            raise ValueError(f"{min(place, count)} is below 0")
-        return read_runes(self._handle, tag, place, least(count, max(0, self.len(tag) - place)), gap)
 
     def bytes(self, tag: int, start: int, end: int) -> Tuple[int, int]:
         """Counts the bytes that the loaded runes of an open file take in UTF-8 from the place `start` to the place `end`, and the runes

@@ -1,5 +1,5 @@
 -- What the calls of a client do. Times are in milliseconds.
-use Rattle.std.specs.Prelude.{◌≡◌, ◌⊎◌, ◌↔◌, ◌*◌, ℕ, Bool, true, false, nat_le, nat_lt, IsTrue, List, [], ◌∷◌, ◌++◌, drop, length, Option, Some, None, Result, Ok, Err}
+use Rattle.std.specs.Prelude.{◌≡◌, ◌⊎◌, ◌↔◌, ◌*◌, ◌==◌, ℕ, Bool, true, false, nat_le, nat_lt, IsTrue, List, [], ◌∷◌, ◌++◌, drop, length, Option, Some, None, Result, Ok, Err}
 use Rattle.sam_runes.specs.Texts.{is_empty}
 use Rattle.sam_link.specs.Sessions.{IsId}
 use Rattle.sam_link.specs.declared.fault.CallFault.{CallFault}
@@ -23,6 +23,7 @@ use Rattle.sam_overlay.specs.declared.fault.ReplaceFault.{ReplaceFault}
 use Rattle.sam_overlay.specs.declared.shown_change.Asked.{Asked}
 use Rattle.sam_shown.specs.Splices.{splices_of}
 use Rattle.sam_shown.specs.declared.splices.Splice.{Splice}
+use Rattle.sam_client.specs.Batches.{ReplacesEach, count_in}
 use Rattle.sam_client.specs.Clients.{Act, Does, new_client}
 use Rattle.sam_client.specs.Clients.Act.{OfLine, Replace, Request, TakeBack}
 use Rattle.sam_client.specs.Delivery.{HasAll}
@@ -31,6 +32,8 @@ use Rattle.sam_client.specs.Notes.{PutsNote}
 use Rattle.sam_client.specs.declared.event.Event.{Event}
 use Rattle.sam_client.specs.declared.event.Event.TheVariants as tell
 use Rattle.sam_client.specs.declared.fault.GoOnFault.{GoOnFault}
+use Rattle.sam_client.specs.declared.replacement.Replaced.{Replaced}
+use Rattle.sam_client.specs.declared.replacement.Replacement.{Replacement}
 use Rattle.sam_c.specs.Calls.{AtHandle}
 use Rattle.sam_c.specs.ClientStatus.{ask_status, event_number, go_on_status}
 use Rattle.sam_c.specs.LineStatus.{receive_status, tick_number}
@@ -39,7 +42,7 @@ use Rattle.sam_c.specs.LinkStatus.{call_status, note_status, out_status, put_sta
 use Rattle.sam_c.specs.Links.{handed_or, id_bytes}
 use Rattle.sam_c.specs.OverlayStatus.{replace_status}
 use Rattle.sam_c.specs.Overlays.{Handed, HandsBack, NextWaiting, WithText, event_of, told_splice}
-use Rattle.sam_c.specs.Status.{ok, no_memory, is_made, no_handle, no_room, nothing, waiting}
+use Rattle.sam_c.specs.Status.{ok, no_memory, is_made, no_handle, no_room, not_text, nothing, waiting}
 use Rattle.sam_c.specs.Steps.{did_nothing, did_of_term}
 use Rattle.sam_c.specs.declared.client_end.ClientEnd.{ClientEnd}
 use Rattle.sam_c.specs.declared.overlay_calls.SamSplice.{SamSplice}
@@ -199,6 +202,33 @@ abbrev pub ClientReplaced : Option ClientEnd → ℕ → ℕ × ℕ → List ℕ
 ClientReplaced before tag range text status after =
     AtHandle before status after
     (λ e status g. WithText e text (λ runes status g. ReplacesOne e (is_empty e.splices) tag range runes status g) status g)
+
+-- a client, and how many replacements were made
+abbrev pub Counted : Type 0
+Counted = ClientEnd × ℕ
+
+-- as many replacements are made as there are before the first that is refused; while splices are left none is
+abbrev pub ReplacesAll : ClientEnd → Bool → ℕ → List Replacement → List ℕ → ℕ → ℕ → Counted → Type 0
+ReplacesAll e false tag xs runes before status g = (status ≡ waiting) × (g ≡ (e, before))
+ReplacesAll e true tag xs runes before status g =
+    (x : Replaced) × ReplacesEach e.client tag xs runes x g.0.client × (g.0.splices ≡ e.splices)
+    × (status ≡ replace_status (term_of g.0).stop x.result) × (g.1 ≡ x.made)
+
+-- the text has just the runes that they take, or none is made
+abbrev pub ReplacesJust : ClientEnd → Bool → ℕ → List Replacement → List ℕ → ℕ → ℕ → Counted → Type 0
+ReplacesJust e false tag xs runes before status g = (status ≡ not_text) × (g ≡ (e, before))
+ReplacesJust e true tag xs runes before status g = ReplacesAll e (is_empty e.splices) tag xs runes before status g
+
+abbrev pub ClientReplacedEachBy : Option ClientEnd → ℕ → List Replacement → List ℕ → ℕ → ℕ → ℕ → Option ClientEnd → Type 0
+ClientReplacedEachBy None tag xs runes old status new after = (status ≡ no_handle) × (new ≡ old) × (after ≡ None)
+ClientReplacedEachBy (Some e) tag xs runes old status new after =
+    (g : ClientEnd) × (after ≡ Some g) × ReplacesJust e (count_in xs == length runes) tag xs runes old status (g, new)
+
+abbrev pub ClientReplacedEach : Option ClientEnd → ℕ → List Replacement → List ℕ → ℕ → ℕ → ℕ → Option ClientEnd → Type 0
+ClientReplacedEach None tag xs text old status new after = (status ≡ no_handle) × (new ≡ old) × (after ≡ None)
+ClientReplacedEach (Some e) tag xs text old status new after =
+    (g : ClientEnd) × (after ≡ Some g)
+    × WithText (e, 0) text (λ runes status g. ReplacesJust e (count_in xs == length runes) tag xs runes 0 status g) status (g, new)
 
 -- the request is taken; if there is none, nothing is done
 abbrev pub AsksOne : ClientEnd → Option UserEvent → ℕ → ClientEnd → Type 0

@@ -7,7 +7,8 @@ ghost use Rattle.sam_overlay.specs.Calls.{waiting_at};
 ghost use Rattle.sam_overlay.specs.Overlays.{is_request};
 ghost use Rattle.sam_c.specs.ClientStatus.{event_number};
 ghost use Rattle.sam_c.specs.Clients.{ClientAsked, ClientAskedOne, ClientDropped, ClientNextSplice, ClientNote, ClientNotePut};
-ghost use Rattle.sam_c.specs.Clients.{ClientReplaced, ClientReplacedBy, ClientWentOn, CopiesNote, TakesBack};
+ghost use Rattle.sam_c.specs.Clients.{ClientReplaced, ClientReplacedBy, ClientReplacedEach, ClientReplacedEachBy};
+ghost use Rattle.sam_c.specs.Clients.{ClientWentOn, CopiesNote, TakesBack};
 ghost use Rattle.sam_c.specs.Clients.{event_did, heard, overlay_of, splices_after};
 ghost use Rattle.sam_c.specs.Overlays.{handed};
 
@@ -19,10 +20,10 @@ use crate::overlay_calls::{SamSplice, told_splice};
 use crate::overlay_drops::hand_back;
 use crate::overlay_events::{SamEvent, event_of};
 use crate::overlay_status::replace_fault;
-use crate::status::{NO_HANDLE, NO_ROOM, NONE, OK, WAITING};
+use crate::status::{NO_HANDLE, NO_ROOM, NONE, NOT_TEXT, OK, WAITING};
 use crate::steps::{IDLE, SamDid, did_nothing, did_of_term};
 use crate::term_events::read_status;
-use sam_client::Event;
+use sam_client::{Event, Replacement, take_together};
 use sam_endpoint::TermStep;
 use sam_runes::read_utf8;
 use sam_shown::Splices;
@@ -184,6 +185,62 @@ pub extern "C" fn sam_client_replace(
     }
     match read_utf8(alloc, text) {
         Ok(runes) => replace(client, tag, (start, end), runes.as_slice(), alloc),
+        Err(why) => read_status(why),
+    }
+}
+
+/// Makes replacements of what is shown of a file, in the client that a handle holds, and hands out how many were made.
+fn replace_each(
+    client: &mut SamClient,
+    tag: u16,
+    replacements: &[Replacement],
+    runes: &[char],
+    made: &mut usize,
+    alloc: Global,
+) -> u32
+    ensures { ClientReplacedEachBy client.old.held.end tag replacements.now runes.now made.old result made.new client.new.held.end }
+{
+    with_end!(client alloc mut end {
+        if !take_together(replacements, runes.len()) {
+            NOT_TEXT
+        } else if end.splices.is_empty() {
+            let replaced = end.client.replace_each(tag, replacements, runes);
+            *made = replaced.made;
+            match replaced.result {
+                Ok(()) => OK,
+                Err(why) => replace_fault(end.client.overlay().end().stopped(), why),
+            }
+        } else {
+            WAITING
+        }
+    })
+}
+
+/// Makes replacements of what is shown of a file, one after another, each as `sam_client_replace` does: its places are those of the text
+/// that the ones before it have left, and the text has the runes of all of them, in their order. Stops in front of the first one that is
+/// refused, and hands out how many were made.
+///
+/// Returns `SAM_OK`, or in this order `SAM_NO_HANDLE`, after which `made` is as it was; `SAM_NOT_TEXT` if the text is not UTF-8, and
+/// `SAM_NO_MEMORY` if there is no memory for its runes; `SAM_NOT_TEXT` if it has not just the runes that they take; `SAM_WAITING` if
+/// splices of the last step are left; what [`Client::replace_each`](sam_client::Client::replace_each) answers for the first one that is
+/// refused. But for that the client is as it was, and none were made.
+#[unsafe(no_mangle)]
+pub extern "C" fn sam_client_replace_each(
+    client: &mut SamClient,
+    tag: u16,
+    replacements: &[Replacement],
+    text: &[u8],
+    made: &mut usize,
+    alloc: Global,
+) -> u32
+    ensures { ClientReplacedEach client.old.held.end tag replacements.now text.now made.old result made.new client.new.held.end }
+{
+    if !client.is_made() {
+        return NO_HANDLE;
+    }
+    *made = 0;
+    match read_utf8(alloc, text) {
+        Ok(runes) => replace_each(client, tag, replacements, runes.as_slice(), made, alloc),
         Err(why) => read_status(why),
     }
 }

@@ -2,3 +2,4 @@ pub mod Packets
 pub mod Moves
 pub mod DeliveryLaws
 pub mod GoingLaws
+pub mod BatchLaws

@@ -4,3 +4,4 @@ pub mod Clients
 pub mod Delivery
 pub mod Notes
 pub mod Going
+pub mod Batches

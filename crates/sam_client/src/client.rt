@@ -10,8 +10,10 @@ ghost use Rattle.sam_term.specs.Term.{rasp_at};
 ghost use Rattle.sam_client.specs.Clients.{Does, new_client};
 ghost use Rattle.sam_client.specs.Delivery.{HasAll, HasSent, is_unsaved};
 ghost use Rattle.sam_client.specs.Clients.Act.{OfLine, Replace, Request, TakeBack};
+ghost use Rattle.sam_client.specs.Batches.{ReplacesEach};
 
 use crate::packet::Packet;
+use crate::replacement::{Replaced, Replacement};
 use sam_line::{Line, ReceiveFault, Tick};
 use sam_link::{CallFault, Id, NotOpen, PutFault};
 use sam_overlay::{AskFault, Asked, OrderedOverlay, Overlay, ReplaceFault};
@@ -147,6 +149,38 @@ impl Client {
         ensures { Does self.old (Replace tag p q runes.now result) self.new }
     {
         self.ordered.replace(tag, p, q, runes)
+    }
+
+    /// Makes replacements of what is shown of a file, one after another, each as `replace` does: its places are those of the text that the
+    /// ones before it have left. Each takes its runes from `runes`, in their order, as many as are left and no more. It stops in front of
+    /// the first one that is refused, which changes nothing, and returns how many were made, and why it stopped.
+    #[tactic(auto, using(crate::proofs::BatchLaws::begun))]
+    pub fn replace_each(
+        &mut self,
+        tag: u16,
+        replacements: &[Replacement],
+        runes: &[char],
+    ) -> Replaced
+        ensures { ReplacesEach self.old tag replacements.now runes.now result self.new }
+    {
+        let mut left = replacements;
+        let mut rest = runes;
+        let mut made = 0;
+        'left: while !left.is_empty() {
+            let next = left[0];
+            let count = rest.len().min(next.count as usize);
+            let result = self.replace(tag, next.p, next.q, &rest[..count]);
+            if result.is_err() {
+                return Replaced { made, result };
+            }
+            made += 1;
+            left = &left[1..];
+            rest = &rest[count..];
+        }
+        Replaced {
+            made,
+            result: Ok(()),
+        }
     }
 
     /// Takes a request of the user in behind the others, as `OrderedOverlay::ask` does, and says which write that waits it shares, if it

@@ -7,8 +7,10 @@ mod event;
 mod fault;
 mod going;
 mod packet;
+mod replacement;
 
 pub use client::Client;
 pub use event::Event;
 pub use fault::GoOnFault;
 pub use going::MOST_MOVES;
+pub use replacement::{Replaced, Replacement, take_together};

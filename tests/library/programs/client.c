@@ -47,17 +47,21 @@ static void no_handle_for_the_user(sam_client *none)
     sam_splice splice = {.count = 9};
     sam_event event = {.kind = SAM_EVENT_FLUSH};
     sam_client_event told = SAM_CLIENT_NOTE;
+    sam_changes changes = {.got = 5, .used = 6};
     size_t len = 7;
     bool is = true;
     WANT(sam_client_next_event(none, 0, &told, &did), SAM_NO_HANDLE);
     WANT(sam_client_next_splice(none, &splice), SAM_NO_HANDLE);
+    WANT(sam_client_step_edits(none, 0, &changes, &told, &did), SAM_NO_HANDLE);
     WANT(sam_client_replace(none, 0, 0, 0, BYTES("\xFF")), SAM_NO_HANDLE);
+    WANT(sam_client_replace_each(none, 0, NULL, 0, BYTES("\xFF"), &len), SAM_NO_HANDLE);
     WANT(sam_client_ask(none, &event, BYTES("\xFF")), SAM_NO_HANDLE);
     WANT(sam_client_drop_next(none, 0, &splice, bytes, sizeof bytes, &len), SAM_NO_HANDLE);
     WANT(sam_client_has_all(none, &is), SAM_NO_HANDLE);
     WANT(sam_client_requests(none, &len), SAM_NO_HANDLE);
     WANT(sam_client_is_unsaved(none, 0, &is), SAM_NO_HANDLE);
     WANT(memcmp(bytes, "unused", 7) == 0 && len == 7 && is, 1);
+    WANT(changes.got == 5 && changes.used == 6, 1);
     WANT(did.event == 8 && splice.count == 9 && told == SAM_CLIENT_NOTE, 1);
 }
 
@@ -592,6 +596,132 @@ static void host_changes(void)
     free_both();
 }
 
+/* ---- Many by one call ---- */
+
+static void each(const sam_replacement *rows, size_t count, const char *text, sam_status status, size_t wanted)
+{
+    size_t made = 7;
+    WANT(sam_client_replace_each(&client, 1, rows, count, (const uint8_t *)text, strlen(text), &made), status);
+    WANT(made, wanted);
+}
+
+/* Places are those of what the replacements before have left. Those before one that is refused are made. */
+static void replaced_each(void)
+{
+    static const sam_replacement rows[] = {{4, 5, 2}, {1, 2, 0}, {0, 0, 1}}, beyond[] = {{5, 5, 1}, {9, 9, 1}, {0, 0, 1}};
+    static const uint32_t came[] = {0xF6, '!', 'J', 'x'};
+    static uint8_t comes[] = "\x4D\0\x11" STAMP TAG PLACE("\5") "<->";
+    open_both("hello", true);
+    WANT(ask_for(SAM_EVENT_WRITE, 1, 0, 0), SAM_OK);
+    go_on();
+    each(rows, 3, "\xC3\xB6!J", SAM_OK, 3);
+    shows(1, "Jhll\xC3\xB6!");
+    each(beyond, 3, "xyz", SAM_REFUSAL_BAD_POSITION, 1);
+    shows(1, "Jhll\xC3\xB6x!");
+    each(rows, 3, "xy", SAM_NOT_TEXT, 0); /* too few runes, and too many */
+    each(rows, 3, "wxyz", SAM_NOT_TEXT, 0);
+    each(rows, 3, "\xFFyz", SAM_NOT_TEXT, 0);
+    each(NULL, 0, "", SAM_OK, 0);
+    shows(1, "Jhll\xC3\xB6x!");
+    change(&copy, 4, 1, came, 2);
+    change(&copy, 1, 1, NULL, 0);
+    change(&copy, 0, 0, came + 2, 1);
+    change(&copy, 5, 0, came + 3, 1);
+    settle();
+    same_text(&host, 1, "Jhll\xC3\xB6x!");
+    tell(comes, sizeof comes - 1);
+    steps(SAM_CLIENT_STEPPED);
+    each(rows, 3, "wxyz", SAM_NOT_TEXT, 0);
+    each(rows, 3, "xyz", SAM_WAITING, 0); /* a splice is left */
+    free_both();
+}
+
+enum { MOST_CHANGES = 8, ROOM_FOR_RUNES = 600 };
+static sam_splice splices[MOST_CHANGES];
+static uint32_t brought[ROOM_FOR_RUNES];
+static sam_changes changes;
+
+/* The steps that follow are edits, so many splices are handed out with so many runes, and then this is told. */
+static sam_did edits(size_t most, size_t room, size_t got, const char *came, sam_client_event event)
+{
+    sam_client_event told = SAM_CLIENT_WIDTH;
+    sam_did did = {.event = 8};
+    changes = (sam_changes){.splices = splices, .most = most, .got = 9, .runes = brought, .room = room, .used = 9};
+    WANT(sam_client_step_edits(&client, now, &changes, &told, &did), SAM_OK);
+    WANT(told, event);
+    WANT(changes.got, got);
+    WANT(changes.used, strlen(came));
+    for (size_t at = 0; at < changes.used; at++)
+        WANT(brought[at], (uint32_t)came[at]);
+    return did;
+}
+
+static void has_splice(size_t at, sam_splice_kind kind, uint32_t place, uint32_t count)
+{
+    WANT(splices[at].kind == kind && splices[at].place == place && splices[at].count == count && splices[at].tag == 1, 1);
+}
+
+/* The host's edits under the lock of a write, as in host_changes. */
+static void tell_edits(void)
+{
+    static uint8_t comes[] = "\x4D\0\x11" STAMP TAG PLACE("\5") "<->", goes[] = "\x51\0\x12" STAMP TAG PLACE("\1") PLACE("\6");
+    open_both("hello", true);
+    WANT(ask_for(SAM_EVENT_WRITE, 1, 0, 0), SAM_OK);
+    go_on();
+    WANT(sam_client_replace(&client, 1, 5, 5, BYTES("!")), SAM_OK);
+    WANT(sam_client_replace(&client, 1, 2, 2, BYTES("?")), SAM_OK);
+    tell(comes, sizeof comes - 1);
+    tell(goes, sizeof goes - 1);
+}
+
+static void many_edits(void)
+{
+    static uint8_t frees[] = "\x4B\0\x0A" STAMP TAG;
+    sam_client_event told = SAM_CLIENT_WIDTH;
+    sam_did did = {.event = 8};
+    tell_edits();
+    tell(frees, sizeof frees - 1);
+    did = edits(MOST_CHANGES, ROOM_FOR_RUNES, 3, "<->", SAM_CLIENT_STEPPED); /* what is no edit ends it */
+    WANT(did.kind, SAM_KIND_HUNLOCKFILE);
+    has_splice(0, SAM_SPLICE_CAME, 6, 3);
+    has_splice(1, SAM_SPLICE_WENT, 3, 5);
+    has_splice(2, SAM_SPLICE_WENT, 1, 1);
+    shows(1, "h?>!");
+    edits(MOST_CHANGES, ROOM_FOR_RUNES, 0, "", SAM_CLIENT_BUSY); /* what was typed acts, which makes no splice */
+    edits(MOST_CHANGES, ROOM_FOR_RUNES, 0, "", SAM_CLIENT_IDLE);
+    WANT(waiting(), 0);
+    free_both();
+
+    tell_edits();
+    did = edits(2, ROOM_FOR_RUNES, 2, "<->", SAM_CLIENT_STEPPED); /* no room amid a step */
+    WANT(did.kind, SAM_KIND_HCUT);
+    WANT(sam_client_step_edits(&client, now, &changes, &told, &did), SAM_WAITING);
+    WANT(changes.got == 0 && changes.used == 0, 1);
+    wants_splice(SAM_SPLICE_WENT, 1, 1, 1);
+    edits(2, ROOM_FOR_RUNES, 0, "", SAM_CLIENT_IDLE);
+    free_both();
+
+    tell_edits();
+    edits(0, ROOM_FOR_RUNES, 0, "", SAM_CLIENT_BUSY);
+    edits(MOST_CHANGES, 511, 0, "", SAM_CLIENT_BUSY); /* a frame may bring 512 runes */
+    did = edits(MOST_CHANGES, 512, 1, "<->", SAM_CLIENT_STEPPED);
+    WANT(did.kind, SAM_KIND_HGROWDATA);
+    edits(MOST_CHANGES, 512, 2, "", SAM_CLIENT_BUSY);
+    edits(MOST_CHANGES, 512, 0, "", SAM_CLIENT_IDLE);
+    free_both();
+}
+
+/* A stretch that is loaded is handed out with its runes, that of a text which is open already. */
+static void many_loads(void)
+{
+    static uint8_t loads[] = "\x49\0\x11" STAMP TAG PLACE("\1") "ell";
+    open_both("hello", false);
+    tell(loads, sizeof loads - 1);
+    edits(MOST_CHANGES, ROOM_FOR_RUNES, 1, "ell", SAM_CLIENT_BUSY);
+    has_splice(0, SAM_SPLICE_FILLED, 1, 3);
+    free_both();
+}
+
 /* The host leaves no room for what waits: all of it comes back, once a buffer has room for all of it. */
 static void taken_back(void)
 {
@@ -811,6 +941,9 @@ int main(void)
     place_in_a_text_to_come();
     notes();
     host_changes();
+    replaced_each();
+    many_edits();
+    many_loads();
     taken_back();
     command_file();
     closed();

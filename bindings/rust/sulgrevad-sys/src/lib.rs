@@ -364,6 +364,27 @@ pub struct sam_splice {
     pub tag: u16,
 }
 
+/// One of several replacements: the shown runes from the place `start` to the place `end` give way to the next `count` runes of a text.
+#[derive(Clone, Copy, Debug, Default, PartialEq, Eq)]
+#[repr(C)]
+pub struct sam_replacement {
+    pub start: u32,
+    pub end: u32,
+    pub count: u32,
+}
+
+/// Room for the changes that many steps made, which the caller lends. The library counts what it puts there.
+#[derive(Clone, Copy, Debug)]
+#[repr(C)]
+pub struct sam_changes {
+    pub splices: *mut sam_splice,
+    pub most: usize,
+    pub got: usize,
+    pub runes: *mut u32,
+    pub room: usize,
+    pub used: usize,
+}
+
 /// An event of the user, for an overlay.
 #[derive(Clone, Copy, Debug, Default, PartialEq, Eq)]
 #[repr(C)]
@@ -1276,6 +1297,21 @@ extern "C" {
     /// lost: why the terminal has stopped, at this call or before, SAM_STREAM.. or SAM_TERM_REFUSED..; SAM_COUNT_FULL; SAM_UNFINISHED if
     /// memory is short: call it again later.
     pub fn sam_client_next_event(client: *mut sam_client, now: u64, kind: *mut sam_client_event, did: *mut sam_did) -> sam_status;
+    /// Goes on as sam_client_next_event does, and over each step that is an edit: of the host's (Hgrowdata, Hcut), of runes that are loaded
+    /// (Hdata), or one of the user's that acted, which made no splice. Hands out their splices in their order, each with the runes that it
+    /// brought, SAM_GAP for one that is not loaded. It stops behind the first event that is none of these, and hands that out; its splices
+    /// are left for sam_client_next_splice. SAM_CLIENT_IDLE comes only if no step was made, else SAM_CLIENT_BUSY in its place. That comes,
+    /// too, after `most` steps, and where there is no room for a splice or for the 512 runes that a frame may bring. If the room ends in a
+    /// step, it hands out SAM_CLIENT_STEPPED and that step, and the rest of its splices is left, if there is more. It refuses as
+    /// sam_client_next_event does, in its order, and the counts say then what was handed out before; after SAM_NO_HANDLE they are as they
+    /// were.
+    pub fn sam_client_step_edits(
+        client: *mut sam_client,
+        now: u64,
+        changes: *mut sam_changes,
+        kind: *mut sam_client_event,
+        did: *mut sam_did,
+    ) -> sam_status;
     /// Hands out the next change of the shown text by the last step. Returns SAM_NONE if none is left.
     pub fn sam_client_next_splice(client: *mut sam_client, splice: *mut sam_splice) -> sam_status;
     /// Copies the note that was told last (SAM_CLIENT_NOTE), and hands out its length in bytes, which may be 0. It stays until the next one
@@ -1292,6 +1328,21 @@ extern "C" {
     /// SAM_REFUSAL_EXITED comes that if a request waits that ends the session, and then SAM_REFUSAL_NOT_OPEN if one waits that closes the
     /// file.
     pub fn sam_client_replace(client: *mut sam_client, tag: u16, start: u32, end: u32, text: *const u8, len: usize) -> sam_status;
+    /// Makes replacements of a file, one after another, each as sam_client_replace does: its places are those of the text that the ones
+    /// before it have left. So from the last place to the first, all are places of the text before. The text has the runes of all of them,
+    /// in their order. It stops in front of the first one that is refused, and *made counts those before. Refused, in this order, and none
+    /// is made then: SAM_NO_HANDLE, after which *made is as it was; SAM_NOT_TEXT if the text is not UTF-8; SAM_NO_MEMORY if there is no
+    /// memory for its runes; SAM_NOT_TEXT if it has more runes or fewer than the replacements take; SAM_WAITING if splices are left. Then
+    /// come the refusals of sam_client_replace for the first one that is refused.
+    pub fn sam_client_replace_each(
+        client: *mut sam_client,
+        tag: u16,
+        replacements: *const sam_replacement,
+        count: usize,
+        text: *const u8,
+        len: usize,
+        made: *mut usize,
+    ) -> sam_status;
     /// Asks for what is no edit: an event of an overlay (enum sam_event_kind), with its text if it brings one. It stands in one order with
     /// the edits: it acts as the client goes on, once all edits before it are put, and finds the text that is shown now, with the host's
     /// changes since. A place that it names is one of that text, and moves with it as the host changes the text: what comes in at the place
