@@ -1850,7 +1850,7 @@ SAM_MUST_USE sam_status sam_journal_next(const uint8_t *bytes, size_t len, size_
  *     sam_server_next_record(&server, ..)              into the journal, until SAM_NONE
  *     sam_server_durable(&server, count)               so many more of the records are safe: after fdatasync, say
  *     sam_server_take_out(&server, attempt, ..)        bytes for the connection
- *     sam_server_next_effect(&server, &effect)         what the program is asked to do: write a file, or hear a message
+ *     sam_server_next_effect(&server, &effect)         what the program is asked to do: write a file, hear a message, or keep a text
  *     sam_server_effect_done(&server, ending)          it is done, and the server goes on behind it
  *
  * After a crash, of the records of the journal, from the oldest on:
@@ -1872,6 +1872,9 @@ SAM_MUST_USE sam_status sam_journal_next(const uint8_t *bytes, size_t len, size_
 enum sam_effect_kind {
     SAM_EFFECT_WRITE = 1, /* the saved text of the file `tag` is to be written (Twrite): sam_server_saved */
     SAM_EFFECT_HEAR = 2,  /* the terminal's program said a message of `len` bytes: sam_server_heard */
+    /* The terminal closed a file that was dirty (Tclose). No file has the tag `tag` any more, and none gets it again. What it held last is
+     * still to be had, for a program that keeps a copy: sam_server_closed_name, and sam_server_closed_text of `len` bytes. */
+    SAM_EFFECT_CLOSE = 3,
 
     SAM_EFFECT_WIDTH = 0x7FFFFFFF /* never handed out: it keeps the type at 32 bits under any compiler's options */
 };
@@ -1879,7 +1882,7 @@ typedef enum sam_effect_kind sam_effect_kind;
 
 /* What the program is asked to do. What a kind doesn't say is 0. */
 struct sam_effect {
-    size_t len; /* how many bytes the message has */
+    size_t len; /* how many bytes the message has, or the text of the file that was closed */
     sam_effect_kind kind;
     uint16_t tag; /* the file */
 };
@@ -1963,6 +1966,15 @@ SAM_MUST_USE sam_status sam_server_next_effect(sam_server *server, sam_effect *e
 /* Copies the message that is to be heard now, all of it or nothing, and hands out its length in bytes. A room of 4,096 bytes is always
  * enough. Refused, in this order: SAM_NONE if sam_server_next_effect hands out no message; SAM_NO_ROOM if it doesn't fit. */
 SAM_MUST_USE sam_status sam_server_heard(sam_server *server, uint8_t *into, size_t room, size_t *len);
+
+/* Copies the name of the file that was closed, in UTF-8, all of it or nothing, and hands out its length in bytes. A room of
+ * SAM_MOST_NAME_BYTES is always enough. Refused, in this order: SAM_NONE if sam_server_next_effect hands out no file that was closed;
+ * SAM_NO_ROOM if it doesn't fit. */
+SAM_MUST_USE sam_status sam_server_closed_name(sam_server *server, uint8_t *into, size_t room, size_t *len);
+
+/* Copies the text that the file had as it was closed, in UTF-8, all of it or nothing, and hands out its length in bytes. Refused as
+ * sam_server_closed_name is. */
+SAM_MUST_USE sam_status sam_server_closed_text(sam_server *server, uint8_t *into, size_t room, size_t *len);
 
 /* Ends the effect, which is done. `ending` is a number of the program's own for how it ended, which stands in the record. Its own refusal:
  * SAM_NONE if sam_server_next_effect hands out none. */

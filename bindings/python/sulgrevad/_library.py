@@ -208,6 +208,7 @@ SIGNATURES: Dict[str, Tuple[Any, ...]] = {
     "server_ask": (), "server_acknowledge": (), "server_go_on": (), "server_record_len": (_SIZE,),
     "server_next_record": (*_BUFFER, _SIZE), "server_durable": (c_size_t,), "server_take_out": (c_uint64, *_BUFFER, _SIZE),
     "server_next_effect": (POINTER(CEffect),), "server_heard": (*_BUFFER, _SIZE), "server_effect_done": (c_uint64,),
+    "server_closed_name": (*_BUFFER, _SIZE), "server_closed_text": (*_BUFFER, _SIZE),
     "server_is_done": (_BOOL,), "server_tags": (_SIZE,), "server_has_file": (c_uint16, _BOOL),
     "server_name": (c_uint16, *_BUFFER, _SIZE), "server_len": (c_uint16, _U32), "server_is_dirty": (c_uint16, _BOOL),
     "server_text": (c_uint16, *_TEXT_FROM), "server_saved_len": (c_uint16, _U32), "server_saved": (c_uint16, *_TEXT_FROM),

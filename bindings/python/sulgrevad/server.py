@@ -12,18 +12,20 @@ from sulgrevad.status import error_of
 
 
 class EffectKind(enum.IntEnum):
-    """The kinds of effects: a file is to be written, or a message to be heard."""
+    """The kinds of effects: a file is to be written, a message to be heard, or a file that was dirty was closed."""
 
     WRITE = 1
     HEAR = 2
+    CLOSE = 3
 
 
 KINDS = {int(kind): kind for kind in EffectKind}
 
 
 class Effect(NamedTuple):
-    """What the program is asked to do: to write `saved` of the file `tag`, or to hear the message `heard()`, of `len` bytes. What a kind
-    doesn't say is 0."""
+    """What the program is asked to do: to write `saved` of the file `tag`; to hear the message `heard()`, of `len` bytes; or to keep a
+    copy, if it does, of the file `tag`, which was closed while it was dirty: `closed_name()` and `closed_text()`, of `len` bytes. What a
+    kind doesn't say is 0."""
 
     kind: EffectKind
     tag: int
@@ -169,6 +171,15 @@ class DurableServer(Counts, Texts, Mover):
         into, count = ctypes.create_string_buffer(MOST_NOTE), c_size_t()
         self._call("heard", into, MOST_NOTE, byref(count))
         return ctypes.string_at(into, count.value)
+
+    def closed_name(self) -> str:
+        """Returns the name of the file that was closed. Raises Missing if `next_effect` returns no such file."""
+        return self._short_text("closed_name", MOST_IN_NAME)
+
+    def closed_text(self) -> str:
+        """Returns the text that the file had as it was closed. Raises Missing if `next_effect` returns no such file."""
+        effect = self.next_effect()
+        return self._short_text("closed_text", effect.len if effect else 0)
 
     def effect_done(self, ending: int = 0) -> None:
         """Ends the effect, which is done. `ending` is a number of the program's own for how it ended, which stands in the record. Its own

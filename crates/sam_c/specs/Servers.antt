@@ -17,7 +17,7 @@ use Rattle.sam_server.specs.DurableServers.{GoesOn, PlainDurableServer, RefusesF
 use Rattle.sam_server.specs.Heirs.{Inherits}
 use Rattle.sam_server.specs.Records.{Called, Joined, PlainRecord}
 use Rattle.sam_server.specs.Recovering.{Retakes, recovered}
-use Rattle.sam_server.specs.Servers.{Effect, Hear, Server, Write}
+use Rattle.sam_server.specs.Servers.{Close, Effect, Hear, Server, Write}
 use Rattle.sam_server.specs.declared.fault.CallFault.{CallFault}
 use Rattle.sam_server.specs.declared.fault.GoOnFault.{GoOnFault}
 use Rattle.sam_server.specs.declared.fault.HeirFault.{HeirFault}
@@ -138,15 +138,36 @@ ServerNextRecord (Some d) old status new after =
 abbrev pub told_effect : Effect → SamEffect
 told_effect (Write tag) = record { kind = 1; len = 0; tag = tag }
 told_effect (Hear bytes) = record { kind = 2; len = length bytes; tag = 0 }
+told_effect (Close tag name text) = record { kind = 3; len = length text; tag = tag }
 
 abbrev pub heard_in : Option Effect → Option (List ℕ)
 heard_in None = None
 heard_in (Some (Write tag)) = None
 heard_in (Some (Hear bytes)) = Some bytes
+heard_in (Some (Close tag name text)) = None
 
 -- the message that is to be heard now
 abbrev pub heard : PlainDurableServer → Option (List ℕ)
 heard d = heard_in (effect_due d)
+
+abbrev pub closed_name_in : Option Effect → Option (List ℕ)
+closed_name_in None = None
+closed_name_in (Some (Write tag)) = None
+closed_name_in (Some (Hear bytes)) = None
+closed_name_in (Some (Close tag name text)) = Some name
+
+-- the name and the text of the file that was closed just now
+abbrev pub closed_name : PlainDurableServer → Option (List ℕ)
+closed_name d = closed_name_in (effect_due d)
+
+abbrev pub closed_text_in : Option Effect → Option (List ℕ)
+closed_text_in None = None
+closed_text_in (Some (Write tag)) = None
+closed_text_in (Some (Hear bytes)) = None
+closed_text_in (Some (Close tag name text)) = Some text
+
+abbrev pub closed_text : PlainDurableServer → Option (List ℕ)
+closed_text d = closed_text_in (effect_due d)
 
 -- ## A recovery
 

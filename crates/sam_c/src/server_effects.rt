@@ -6,7 +6,7 @@ ghost use Rattle.sam_server.specs.DurableServers.{RefusesEffect, effect_due};
 ghost use Rattle.sam_server.specs.Records.{Done};
 ghost use Rattle.sam_server.specs.Turns.{plain_effect};
 ghost use Rattle.sam_c.specs.Calls.{ReportsSome};
-ghost use Rattle.sam_c.specs.Servers.{ReportsWhole, ServerTook, copied, heard, told_effect};
+ghost use Rattle.sam_c.specs.Servers.{ReportsWhole, ServerTook, closed_name, closed_text, copied, heard, told_effect};
 ghost use Rattle.sam_c.specs.Status.{nothing};
 
 use crate::handle::with_end;
@@ -24,11 +24,14 @@ const WRITE: u32 = 1;
 /// The terminal's program said a message.
 const HEAR: u32 = 2;
 
+/// The terminal closed a file that was dirty.
+const CLOSE: u32 = 3;
+
 /// What the program is asked to do: `sam_effect` of include/sulgrevad.h. What a kind doesn't say is 0.
 #[repr(C)]
 #[derive(Clone, Copy, Drop)]
 pub struct SamEffect {
-    /// How many bytes the message has.
+    /// How many bytes the message has, or the text of the file that was closed.
     pub len: usize,
     /// A number of `sam_effect_kind`.
     pub kind: u32,
@@ -50,6 +53,11 @@ fn told_effect(effect: &Effect) -> SamEffect
             kind: HEAR,
             len: message.len(),
             tag: 0,
+        },
+        Effect::Close { tag, text, .. } => SamEffect {
+            kind: CLOSE,
+            len: text.len(),
+            tag: *tag,
         },
     }
 }
@@ -90,7 +98,50 @@ pub extern "C" fn sam_server_heard(
     with_end!(server alloc end {
         match end.next_effect() {
             Some(Effect::Hear(message)) => copy_whole(message.as_slice(), into, len),
-            Some(Effect::Write(_)) => NONE,
+            Some(_) => NONE,
+            None => NONE,
+        }
+    })
+}
+
+/// Copies the name of the file that was closed into the buffer, in UTF-8, all of it or nothing, and hands out how many bytes it has.
+///
+/// Errors, in this order: `SAM_NO_HANDLE`; `SAM_NONE` if `sam_server_next_effect` hands out no file that was closed; `SAM_NO_ROOM` if the
+/// buffer is shorter.
+#[unsafe(no_mangle)]
+pub extern "C" fn sam_server_closed_name(
+    server: &mut SamServer,
+    into: &mut [u8],
+    len: &mut usize,
+    alloc: Global,
+) -> u32
+    ensures told { ReportsWhole server.old.held.end (copied into.old len.old) result (copied into.new len.new) closed_name }
+    ensures kept { server.new.held.end ≡ server.old.held.end }
+{
+    with_end!(server alloc end {
+        match end.next_effect() {
+            Some(Effect::Close { name, .. }) => copy_whole(name.as_slice(), into, len),
+            Some(_) => NONE,
+            None => NONE,
+        }
+    })
+}
+
+/// Copies the text of the file that was closed into the buffer, as `sam_server_closed_name` copies its name.
+#[unsafe(no_mangle)]
+pub extern "C" fn sam_server_closed_text(
+    server: &mut SamServer,
+    into: &mut [u8],
+    len: &mut usize,
+    alloc: Global,
+) -> u32
+    ensures told { ReportsWhole server.old.held.end (copied into.old len.old) result (copied into.new len.new) closed_text }
+    ensures kept { server.new.held.end ≡ server.old.held.end }
+{
+    with_end!(server alloc end {
+        match end.next_effect() {
+            Some(Effect::Close { text, .. }) => copy_whole(text.as_slice(), into, len),
+            Some(_) => NONE,
             None => NONE,
         }
     })

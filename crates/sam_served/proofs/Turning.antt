@@ -19,7 +19,7 @@ use Rattle.sam_endpoint.specs.HostStepping.{BringsIn, Steps}
 use Rattle.sam_endpoint.specs.declared.step.HostStep.{HostStep}
 use Rattle.sam_endpoint.specs.HostRuns.{AddFile, Bring, Feed, MakeStep, MarkDirty, NextWritten, Runs, TakeOut, came_in, went_out, asides_by}
 use Rattle.sam_endpoint.specs.HostRuns.{Call as HostCall}
-use Rattle.sam_server.specs.Servers.{Acknowledged, Asked, Called, Came, Done, Effect, Handles, HandsOn, Hear, Joined, Marked, PausesBy, PlainRecord, PutsAnswers, Said, Server, StepsOn, Takes, Work, to_write, with_work}
+use Rattle.sam_server.specs.Servers.{Acknowledged, Asked, Called, Came, Done, Effect, Handles, HandsOn, Hear, Joined, Marked, PausesBy, PlainRecord, PutsAnswers, Said, Server, StepsOn, Takes, Work, next_effect, with_work}
 use Rattle.sam_server.proofs.Pauses.{pause_quiet}
 use Rattle.sam_link.specs.Calls.{fed_by}
 use Rattle.sam_link.specs.Sessions.{WasCarried}
@@ -216,9 +216,9 @@ note_turn l h effect bytes ps = record {
 }
 
 step_turn : (l : End) (ps : List Packet) (h k : PlainHostEndpoint) (effect : Option Effect) (step : HostStep) → Steps h (Ok step) k
-    → Turn (left_at l [] ps h effect) (left_at l [] ps (record k { writes = [] }) (to_write k.writes))
+    → Turn (left_at l [] ps h effect) (left_at l [] ps (record k { writes = [] }) (next_effect h))
 step_turn l ps h k effect step does =
-    effect_turn (left_at l [] ps h effect) (left_at l [] ps (record k { writes = [] }) effect) effect (to_write k.writes)
+    effect_turn (left_at l [] ps h effect) (left_at l [] ps (record k { writes = [] }) effect) effect (next_effect h)
     (turn_on (left_at l [] ps h effect) (left_at l [] ps k effect) (left_at l [] ps (record k { writes = [] }) effect)
     (record {
       calls = [];

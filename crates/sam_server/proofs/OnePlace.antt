@@ -1,5 +1,5 @@
 -- Whatever moves are made, work pauses where it would have; and where it stops it pauses nowhere.
-use Rattle.std.proofs.Common.{◌≡◌, ◌≢◌, ◌⊎◌, inl, inr, ℕ, zero, suc, ◌<◌, length, List, [], ◌∷◌, ◌++◌, drop, map, None, Ok, Err, refl, sym, ap, ◌∙◌, subst, append-nil, append_assoc, arith}
+use Rattle.std.proofs.Common.{◌≡◌, ◌≢◌, ◌⊎◌, inl, inr, ℕ, zero, suc, ◌<◌, length, List, [], ◌∷◌, ◌++◌, drop, map, Option, None, Some, Ok, Err, refl, sym, ap, ◌∙◌, subst, append-nil, append_assoc, arith}
 use Rattle.std.proofs.lemmas.List.Elements.{All-cons, All-head, All-nil, All-tail}
 use Rattle.sam_mesg.specs.HostKinds.{FitsH}
 use Rattle.sam_mesg.specs.TerminalKinds.{kind_t}
@@ -17,11 +17,10 @@ use Rattle.sam_endpoint.specs.declared.fault.HostStop.{HostStop}
 use Rattle.sam_endpoint.specs.declared.fault.HostStop.TheVariants as stop
 use Rattle.sam_endpoint.specs.declared.step.HostStep.{HostStep}
 use Rattle.sam_endpoint.specs.declared.step.HostStep.TheVariants as steps
-use Rattle.sam_endpoint.proofs.HostEndpointStepping.{steps_on, went_nowhere}
 use Rattle.sam_link.specs.Packets.{Packet}
 use Rattle.sam_link.specs.Packets.{Packet as packet}
-use Rattle.sam_server.specs.Servers.{HandsOn, IsPausedAt, Pauses, PausesBy, StepsOn, Work, to_write}
-use Rattle.sam_server.proofs.Pauses.{After, Phase, Quietly, Readied, Told, after_same, all_answered, at, begun, goes_at, none_first, none_rest, not_both, one_after, one_answer, one_front, one_ready, one_told, same_head, serves_quietly, stands, takes_in_one, told_at, told_by, told_to}
+use Rattle.sam_server.specs.Servers.{Effect, HandsOn, IsPausedAt, Pauses, PausesBy, StepsOn, Work, effect_of, next_effect, step_effect}
+use Rattle.sam_server.proofs.Pauses.{After, Phase, Quietly, Readied, Silent, Told, after_same, all_answered, answered_effect, at, begun, goes_at, not_both, one_after, one_answer, one_front, one_ready, one_told, quiet_on, same_head, serves_quietly, stands, takes_in_one, told_at, told_by, told_to}
 
 -- ## What is left to answer
 
@@ -33,72 +32,73 @@ fit_rest : (a b : List HFrame) → FitFrames (a ++ b) → FitFrames b
 fit_rest [] b fit = fit
 fit_rest (f ∷ a) b fit = fit_rest a b (All-tail (FitsH 2) f (a ++ b) fit)
 
--- a host answers these messages, none of which tells it to write
+-- a host answers these messages, and the program has nothing to do
 record Serving (h : PlainHost) (ms : List Tmesg) (g : PlainHost) : Type 0 where
   frames : List HFrame
-  serves : Serves h (map Answered ms) frames [] g
+  writes : List ℕ
+  serves : Serves h (map Answered ms) frames writes g
   fit : FitFrames frames
+  silent : Silent h ms
 
 -- of all messages, those behind these
-serves_rest : (xs ms ws : List Tmesg) (h g z : PlainHost) (fx fm : List HFrame) → ms ≡ xs ++ ws → Serves h (map Answered xs) fx [] g
-    → Serves h (map Answered ms) fm [] z → FitFrames fm → Serving g ws z
-serves_rest [] ms ws h g z fx fm is x y fit = record {
+serves_rest : (xs ms ws : List Tmesg) (h g z : PlainHost) (fx fm : List HFrame) (wx wm : List ℕ) → ms ≡ xs ++ ws
+    → Serves h (map Answered xs) fx wx g → Serves h (map Answered ms) fm wm z → FitFrames fm → Silent h ms → Serving g ws z
+serves_rest [] ms ws h g z fx fm wx wm is x y fit silent = record {
   frames = fm;
+  writes = wm;
   serves =
-      subst (λ (l : List Tmesg). Serves g (map Answered l) fm [] z) is
-      (subst (λ (p : PlainHost). Serves p (map Answered ms) fm [] z) (sym x.2) y);
+      subst (λ (l : List Tmesg). Serves g (map Answered l) fm wm z) is
+      (subst (λ (p : PlainHost). Serves p (map Answered ms) fm wm z) (sym x.2) y);
   fit = fit;
+  silent = subst (λ (l : List Tmesg). Silent g l) is (subst (λ (p : PlainHost). Silent p ms) (sym x.2) silent);
 }
-serves_rest (a ∷ xs) [] ws h g z fx fm is x y fit = absurd (cc)
-serves_rest (a ∷ xs) (n ∷ ms) ws h g z fx fm is (k, f1, f2, more, answered, frames, writes, serves) (j, g1, g2, others, answered_too, frames_too, writes_too, serves_too) fit =
+serves_rest (a ∷ xs) [] ws h g z fx fm wx wm is x y fit silent = absurd (cc)
+serves_rest (a ∷ xs) (n ∷ ms) ws h g z fx fm wx wm is (k, f1, f2, more, answered, frames, writes, serves) (j, g1, g2, others, answered_too, frames_too, writes_too, serves_too) fit silent =
     let head : n ≡ a = same_head n a ms (xs ++ ws) is in
     let one = one_answer h k j a n f1 g1 (sym head) answered answered_too in
-    let left : more ≡ [] = none_rest (writes_of h a) more writes in
-    let left_too : others ≡ [] = none_rest (writes_of h n) others writes_too in
-    serves_rest xs ms ws k g z f2 g2 (ap (drop 1) is) (subst (λ w. Serves k (map Answered xs) f2 w g) left serves)
-    (subst (λ p. Serves p (map Answered ms) g2 [] z) (sym one.0)
-    (subst (λ w. Serves j (map Answered ms) g2 w z) left_too serves_too)) (fit_rest g1 g2 (subst FitFrames frames_too fit))
+    serves_rest xs ms ws k g z f2 g2 more others (ap (drop 1) is) serves
+    (subst (λ p. Serves p (map Answered ms) g2 others z) (sym one.0) serves_too) (fit_rest g1 g2 (subst FitFrames frames_too fit))
+    (silent.1 k f1 (ap (answer h) head ∙ answered))
 
--- of the messages before the first that tells it to write, those behind these
+-- of the messages before the first that is not silent, those behind these
 record Before (xs ys : List Tmesg) (k g : PlainHost) : Type 0 where
   rest : List Tmesg
   front : xs ≡ ys ++ rest
   serving : Serving k rest g
 
-serves_before : (xs ys : List Tmesg) (m : Tmesg) (r s : List Tmesg) (h g k : PlainHost) (fx fy : List HFrame) → xs ++ m ∷ r ≡ ys ++ s
-    → Serves h (map Answered xs) fx [] g → Serves h (map Answered ys) fy [] k → (writes_of g m ≡ [] → ⊥) → FitFrames fx
-    → Before xs ys k g
-serves_before xs [] m r s h g k fx fy same x y some fit = record {
+serves_before : (xs ys : List Tmesg) (m : Tmesg) (r s : List Tmesg) (h g k : PlainHost) (fx fy : List HFrame) (wx wy : List ℕ)
+    → xs ++ m ∷ r ≡ ys ++ s → Serves h (map Answered xs) fx wx g → Serves h (map Answered ys) fy wy k → (effect_of g m ≡ None → ⊥)
+    → FitFrames fx → Silent h xs → Silent h ys → Before xs ys k g
+serves_before xs [] m r s h g k fx fy wx wy same x y some fit silent silent_too = record {
   rest = xs;
   front = refl;
   serving = record {
     frames = fx;
-    serves = subst (λ (p : PlainHost). Serves p (map Answered xs) fx [] g) (sym y.2) x;
+    writes = wx;
+    serves = subst (λ (p : PlainHost). Serves p (map Answered xs) fx wx g) (sym y.2) x;
     fit = fit;
+    silent = subst (λ (p : PlainHost). Silent p xs) (sym y.2) silent;
   };
 }
-serves_before [] (b ∷ ys) m r s h g k fx fy same x (j, f1, f2, more, answered, frames, writes, serves) some fit =
+serves_before [] (b ∷ ys) m r s h g k fx fy wx wy same x y some fit silent silent_too =
     let head : m ≡ b = same_head m b r (ys ++ s) same in
-    absurd (some (ap (λ (p : PlainHost). writes_of p m) x.2 ∙ ap (writes_of h) head ∙ none_first (writes_of h b) more writes))
-serves_before (a ∷ xs) (b ∷ ys) m r s h g k fx fy same (j, f1, f2, more, answered, frames, writes, serves) (i, g1, g2, others, answered_too, frames_too, writes_too, serves_too) some fit =
+    absurd (some (ap (λ (p : PlainHost). effect_of p m) x.2 ∙ ap (effect_of h) head ∙ silent_too.0))
+serves_before (a ∷ xs) (b ∷ ys) m r s h g k fx fy wx wy same (j, f1, f2, more, answered, frames, writes, serves) (i, g1, g2, others, answered_too, frames_too, writes_too, serves_too) some fit silent silent_too =
     let head : a ≡ b = same_head a b (xs ++ m ∷ r) (ys ++ s) same in
     let one = one_answer h j i a b f1 g1 head answered answered_too in
-    let left : more ≡ [] = none_rest (writes_of h a) more writes in
-    let left_too : others ≡ [] = none_rest (writes_of h b) others writes_too in
     let x =
-    serves_before xs ys m r s j g k f2 g2 (ap (drop 1) same) (subst (λ w. Serves j (map Answered xs) f2 w g) left serves)
-    (subst (λ p. Serves p (map Answered ys) g2 [] k) (sym one.0)
-    (subst (λ w. Serves i (map Answered ys) g2 w k) left_too serves_too)) some (fit_rest f1 f2 (subst FitFrames frames fit)) in
+    serves_before xs ys m r s j g k f2 g2 more others (ap (drop 1) same) serves
+    (subst (λ p. Serves p (map Answered ys) g2 others k) (sym one.0) serves_too) some (fit_rest f1 f2 (subst FitFrames frames fit))
+    (silent.1 j f1 answered) (silent_too.1 j f1 (ap (answer h) (sym head) ∙ answered)) in
     record { rest = x.rest; front = λ t. head t ∷ x.front t; serving = x.serving }
 
 -- ## It goes on by steps
 
--- a step that tells it to write nothing
+-- a step that has the program do nothing
 steps_first : (ps : List Packet) (l k : PlainHostEndpoint) (step : HostStep) (v : Work) → step ≢ steps.Idle → Steps l (Ok step) k
-    → k.writes ≡ [] → Pauses (at ps k None) v → Pauses (at ps l None) v
-steps_first ps l k step v some does quiet (n, x) =
-    let none : None ≡ to_write k.writes = sym (ap to_write quiet) in
-    let is : at ps k None ≡ at ps (record k { writes = [] }) (to_write k.writes) = λ i. at ps (record k { writes = quiet i }) (none i) in
+    → k.writes ≡ [] → next_effect l ≡ None → Pauses (at ps k None) v → Pauses (at ps l None) v
+steps_first ps l k step v some does quiet none (n, x) =
+    let is : at ps k None ≡ at ps (record k { writes = [] }) (next_effect l) = λ i. at ps (record k { writes = quiet i }) (sym none i) in
     (suc n, (refl, at ps k None, inl (step, k, some, does, is), x))
 
 -- what goes on from an end that went on, with nothing unwritten
@@ -112,8 +112,9 @@ writes_first [] ps e l v is q so = so l q refl refl is
 writes_first (f ∷ fs) ps e l v is q so =
     let does : Steps l (Ok steps.Wrote) (written l) =
     (q.went.goes, subst (λ (u : List HFrame). 0 < length u) (sym is) (omega arith), refl) in
-    steps_first ps l (written l) steps.Wrote v (λ e. cc) does q.quiet
-    (so (written l) (record { went = steps_on e l (written l) steps.Wrote q.went does; quiet = q.quiet }) refl refl refl)
+    let none : next_effect l ≡ None = ap (λ (u : List HFrame). step_effect u l.host l.waiting) is in
+    let still : Quietly e (written l) = quiet_on e l (written l) steps.Wrote q does none in
+    steps_first ps l (written l) steps.Wrote v (λ e. cc) does q.quiet none (so (written l) still refl refl refl)
 
 -- it answers these messages one by one
 goes_by : (ms : List Tmesg) (ps : List Packet) (e l : PlainHostEndpoint) (rest : List Tmesg) (g : PlainHost) (v : Work) → Quietly e l
@@ -125,8 +126,6 @@ goes_by (m ∷ ms) ps e l rest g v q is serving so =
     let (h, first, others, more, answered, frames, writes, serves) = serving.serves in
     writes_first l.unwritten ps e l v refl q
     (λ k still waits host none.
-    let quiet : writes_of k.host m ≡ [] =
-    ap (λ (p : PlainHost). writes_of p m) host ∙ none_first (writes_of l.host m) more writes in
     let n : PlainHostEndpoint =
     record k { host = h; waiting = ms ++ rest; unwritten = first; writes = k.writes ++ writes_of k.host m } in
     let one : AnswersFirst k n = record {
@@ -141,13 +140,17 @@ goes_by (m ∷ ms) ps e l rest g v q is serving so =
     } in
     let step = steps.Answered (kind_t m) (file_of_t m) in
     let does : Steps k (Ok step) n = ((still.went.goes, none), record { first = one; kind_is = refl; named = refl }) in
-    let silent : n.writes ≡ [] = ap (λ (w : List ℕ). w ++ writes_of k.host m) still.quiet ∙ quiet in
-    steps_first ps k n step v (λ e. cc) does silent
-    (goes_by ms ps e n rest g v (record { went = steps_on e k n step still.went does; quiet = silent }) refl
+    let silent : next_effect k ≡ None =
+    answered_effect k n one none ∙ ap (λ (p : PlainHost). effect_of p m) host ∙ serving.silent.0 in
+    let quiet : Quietly e n = quiet_on e k n step still does silent in
+    steps_first ps k n step v (λ e. cc) does quiet.quiet silent
+    (goes_by ms ps e n rest g v quiet refl
     (record {
       frames = others;
-      serves = subst (λ (w : List ℕ). Serves h (map Answered ms) others w g) (none_rest (writes_of l.host m) more writes) serves;
+      writes = more;
+      serves = serves;
       fit = fit_rest first others (subst FitFrames frames serving.fit);
+      silent = serving.silent.1 h first answered;
     }) so))
 
 -- ## It pauses where it would have
@@ -156,18 +159,17 @@ after_pauses : (ps : List Packet) (l : PlainHostEndpoint) (v : Work) → IsReady
 after_pauses ps l v ready (inl (none, is)) = (0, ((ready, none), is))
 after_pauses ps l v ready (inr (m, hands, (n, more))) = (suc n, (refl, m, inr hands, more))
 
-told_pauses : (writes : List ℕ) (v : Work) → (writes ≡ [] → ⊥) → v.effect ≡ to_write writes → IsPausedAt v.effect v
-told_pauses [] v some is = absurd (some refl)
-told_pauses (f ∷ fs) v some is = subst (λ x. IsPausedAt x v) (sym is) tt
+told_pauses : (f : Effect) (v : Work) → v.effect ≡ Some f → IsPausedAt v.effect v
+told_pauses f v is = subst (λ x. IsPausedAt x v) (sym is) tt
 
 ready_from : (ps : List Packet) (e l k : PlainHostEndpoint) (v : Work) → Quietly e k → Readied e l → After ps l v
     → Pauses (at ps k None) v
 ready_from ps e l k v q x rest =
     let serving : Serving k.host k.waiting l.host =
     serves_rest q.went.messages x.quietly.went.messages k.waiting e.host k.host l.host q.went.answers.frames x.quietly.went.answers.frames
-    (sym (all_answered e l x) ∙ q.went.answers.waiting)
+    [] [] (sym (all_answered e l x) ∙ q.went.answers.waiting)
     (serves_quietly e k q)
-    (serves_quietly e l x.quietly) x.quietly.went.answers.frames_fit in
+    (serves_quietly e l x.quietly) x.quietly.went.answers.frames_fit x.quietly.silent in
     goes_by k.waiting ps e k [] l.host v q (sym (append-nil k.waiting)) serving
     (λ j still waits host none.
     let ready : IsReady j = (
@@ -180,65 +182,62 @@ ready_from ps e l k v q x rest =
     let y : Readied e j = record { quietly = still; ready = ready } in
     after_pauses ps j v ready (subst (λ (p : PlainHostEndpoint). After ps p v) (one_ready e l j x y) rest))
 
-told_from : (ps : List Packet) (e j k : PlainHostEndpoint) (v : Work) → Quietly e k → Told e j
-    → v ≡ at ps (record j { writes = [] }) (to_write j.writes) → Pauses (at ps k None) v
-told_from ps e j k v q x is =
+told_from : (ps : List Packet) (e j k : PlainHostEndpoint) (f : Effect) (v : Work) → Quietly e k → Told e j f
+    → v ≡ at ps (record j { writes = [] }) (Some f) → Pauses (at ps k None) v
+told_from ps e j k f v q x is =
     let m = x.first.message in
     let r = x.first.rest in
     let t =
     serves_before x.quietly.went.messages q.went.messages m r k.waiting e.host x.middle.host k.host x.quietly.went.answers.frames
-    q.went.answers.frames (sym (told_at e j x) ∙ q.went.answers.waiting) (serves_quietly e x.middle x.quietly) (serves_quietly e k q)
-    (told_by e j x) x.quietly.went.answers.frames_fit in
+    q.went.answers.frames [] [] (sym (told_at e j f x) ∙ q.went.answers.waiting) (serves_quietly e x.middle x.quietly)
+    (serves_quietly e k q) (told_by e j f x) x.quietly.went.answers.frames_fit x.quietly.silent q.silent in
     let waits : k.waiting ≡ t.rest ++ m ∷ r =
     after_same q.went.messages k.waiting (t.rest ++ m ∷ r)
-    (sym q.went.answers.waiting ∙ told_at e j x ∙ ap (λ (l : List Tmesg). l ++ m ∷ r) t.front
+    (sym q.went.answers.waiting ∙ told_at e j f x ∙ ap (λ (l : List Tmesg). l ++ m ∷ r) t.front
     ∙ append_assoc q.went.messages t.rest (m ∷ r)) in
     goes_by t.rest ps e k (m ∷ r) x.middle.host v q waits t.serving
     (λ l still left host none.
-    let told : writes_of l.host m ≡ [] → ⊥ = λ silent. told_by e j x (ap (λ (p : PlainHost). writes_of p m) (sym host) ∙ silent) in
+    let told : effect_of l.host m ≡ None → ⊥ = λ silent. told_by e j f x (ap (λ (p : PlainHost). effect_of p m) (sym host) ∙ silent) in
     let front : x.quietly.went.messages ≡ still.went.messages =
     one_front x.quietly.went.messages still.went.messages m m r r e.host x.middle.host l.host x.quietly.went.answers.frames
-    still.went.answers.frames
-    (sym (told_at e j x) ∙ still.went.answers.waiting ∙ ap (λ (w : List Tmesg). still.went.messages ++ w) left)
-    (serves_quietly e x.middle x.quietly) (serves_quietly e l still) (told_by e j x) told in
+    still.went.answers.frames [] []
+    (sym (told_at e j f x) ∙ still.went.answers.waiting ∙ ap (λ (w : List Tmesg). still.went.messages ++ w) left)
+    (serves_quietly e x.middle x.quietly) (serves_quietly e l still) x.quietly.silent still.silent (told_by e j f x) told in
     let same : x.middle ≡ l =
     one_after e x.middle l still.went.messages
     (subst (λ (ms : List Tmesg). Rattle.sam_endpoint.specs.HostEndpoints.Answers e ms x.middle) front x.quietly.went.answers)
     still.went.answers x.written none x.quietly.went.goes still.went.goes in
     let does : Steps x.middle (Ok (steps.Answered (kind_t m) (file_of_t m))) j =
     ((x.quietly.went.goes, x.written), record { first = x.first; kind_is = refl; named = refl }) in
-    let paused : IsPausedAt v.effect v = told_pauses j.writes v x.some (ap (λ (w : Work). w.effect) is) in
+    let effect : Some f ≡ next_effect x.middle = sym (answered_effect x.middle j x.first x.written ∙ x.tells) in
+    let at_it : v ≡ at ps (record j { writes = [] }) (next_effect x.middle) =
+    is ∙ ap (λ (o : Option Effect). at ps (record j { writes = [] }) o) effect in
+    let paused : IsPausedAt v.effect v = told_pauses f v (ap (λ (w : Work). w.effect) is) in
     subst (λ (p : PlainHostEndpoint). Pauses (at ps p None) v) same
-    (1, (refl, v, inl (steps.Answered (kind_t m) (file_of_t m), j, (λ e. cc), does, is), (paused, refl))))
+    (1, (refl, v, inl (steps.Answered (kind_t m) (file_of_t m), j, (λ e. cc), does, at_it), (paused, refl))))
 
 pauses_from : (ps : List Packet) (e k : PlainHostEndpoint) (v : Work) → Quietly e k → Phase ps e v → Pauses (at ps k None) v
 pauses_from ps e k v q (inl (l, x, rest)) = ready_from ps e l k v q x rest
-pauses_from ps e k v q (inr (j, x, is)) = told_from ps e j k v q x is
+pauses_from ps e k v q (inr (j, f, x, is)) = told_from ps e j k f v q x is
 
-stepped_by : (writes : List ℕ) (ps : List Packet) (e k : PlainHostEndpoint) (step : HostStep) (v : Work) → k.writes ≡ writes
+stepped_by : (effect : Option Effect) (ps : List Packet) (e k : PlainHostEndpoint) (step : HostStep) (v : Work) → next_effect e ≡ effect
     → e.stop ≡ None → e.writes ≡ [] → step ≢ steps.Idle → Steps e (Ok step) k → Phase ps e v
-    → Pauses (at ps (record k { writes = [] }) (to_write writes)) v
-stepped_by [] ps e k step v none goes quiet some does phase =
-    let q : Quietly e k = record { went = steps_on e e k step (went_nowhere e goes) does; quiet = none } in
-    subst (λ (w : List ℕ). Pauses (at ps (record k { writes = w }) None) v) none (pauses_from ps e k v q phase)
-stepped_by (f ∷ fs) ps e k step v told goes quiet some does (inl (l, x, rest)) =
-    absurd (not_both e l k x (told_to e e k step f fs (stands e goes quiet) some does told))
-stepped_by (f ∷ fs) ps e k step v told goes quiet some does (inr (j, x, is)) =
-    let same : j ≡ k = one_told e j k x (told_to e e k step f fs (stands e goes quiet) some does told) in (
-      0,
-      (
-        tt,
-        is ∙ ap (λ (p : PlainHostEndpoint). at ps (record p { writes = [] }) (to_write p.writes)) same
-            ∙ ap (λ (w : List ℕ). at ps (record k { writes = [] }) (to_write w)) told,
-      ),
-    )
+    → Pauses (at ps (record k { writes = [] }) effect) v
+stepped_by None ps e k step v none goes quiet some does phase =
+    let q : Quietly e k = quiet_on e e k step (stands e goes quiet) does none in
+    subst (λ (w : List ℕ). Pauses (at ps (record k { writes = w }) None) v) q.quiet (pauses_from ps e k v q phase)
+stepped_by (Some f) ps e k step v told goes quiet some does (inl (l, x, rest)) =
+    absurd (not_both e l k f x (told_to e e k step f (stands e goes quiet) some does told))
+stepped_by (Some f) ps e k step v told goes quiet some does (inr (j, g, x, is)) =
+    let one = one_told e j k g f x (told_to e e k step f (stands e goes quiet) some does told) in
+    (0, (tt, is ∙ (λ i. at ps (record (one.0 i) { writes = [] }) (Some (one.1 i)))))
 
 steps_back : (ps : List Packet) (e : PlainHostEndpoint) (m v : Work) → e.writes ≡ [] → StepsOn (at ps e None) m
     → Pauses (at ps e None) v → Pauses m v
 steps_back ps e m v quiet (step, k, some, does, is) pauses =
     let phase = begun ps e v quiet pauses in
     let goes = goes_at pauses.0 ps e v pauses.1 in
-    subst (λ (w : Work). Pauses w v) (sym is) (stepped_by k.writes ps e k step v refl goes quiet some does phase)
+    subst (λ (w : Work). Pauses w v) (sym is) (stepped_by (next_effect e) ps e k step v refl goes quiet some does phase)
 
 some_messages : (ms rest : List Tmesg) → 0 < length ms → [] ≡ ms ++ rest → ⊥
 some_messages [] rest some is = omega (arith, some)
@@ -309,16 +308,16 @@ stops_not : (ps : List Packet) (e k : PlainHostEndpoint) (why : HostStop) (v : W
 stops_not ps e k why v goes (inl (stops, is)) phase = cc (sym goes ∙ stops)
 stops_not ps e k (stop.Stream why) v goes (inr (written, (none, shows, is))) (inl (l, x, rest)) =
     cc (sym shows ∙ sym x.quietly.went.answers.broken_by ∙ x.ready.1.1)
-stops_not ps e k (stop.Stream why) v goes (inr (written, (none, shows, is))) (inr (j, x, at_it)) =
-    none_waits x.quietly.went.messages x.first.rest x.first.message (sym (told_at e j x) ∙ none)
+stops_not ps e k (stop.Stream why) v goes (inr (written, (none, shows, is))) (inr (j, f, x, at_it)) =
+    none_waits x.quietly.went.messages x.first.rest x.first.message (sym (told_at e j f x) ∙ none)
 stops_not ps e k (stop.Refused why) v goes (inr (written, (m, rest, waits, refused, is))) (inl (l, x, after)) =
     first_refused x.quietly.went.messages rest m e.host l.host x.quietly.went.answers.frames [] why
     (sym (all_answered e l x) ∙ waits)
     (serves_quietly e l x.quietly) refused
-stops_not ps e k (stop.Refused why) v goes (inr (written, (m, rest, waits, refused, is))) (inr (j, x, at_it)) =
+stops_not ps e k (stop.Refused why) v goes (inr (written, (m, rest, waits, refused, is))) (inr (j, f, x, at_it)) =
     told_refused x.quietly.went.messages x.first.rest rest x.first.message m e.host x.middle.host x.first.host
     x.quietly.went.answers.frames x.first.frames why
-    (sym (told_at e j x) ∙ waits)
+    (sym (told_at e j f x) ∙ waits)
     (serves_quietly e x.middle x.quietly) x.first.answered refused
 
 -- no work pauses whose endpoint stops at its next step

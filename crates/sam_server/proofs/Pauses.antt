@@ -1,16 +1,19 @@
 -- What waits is handled in one way, and pauses in one place.
-use Rattle.std.proofs.Common.{◌≡◌, ◌≢◌, ◌⊎◌, inl, inr, ℕ, zero, suc, ◌+◌, length, List, [], ◌∷◌, ◌++◌, drop, map, Option, None, Some, Ok, Bool, true, false, refl, sym, ap, ◌∙◌, subst, append-nil, drop_at, arith}
-use Rattle.std.specs.Prelude.{option_map}
+use Rattle.std.proofs.Common.{◌≡◌, ◌≢◌, ◌⊎◌, inl, inr, ℕ, zero, suc, ◌+◌, ◌<◌, length, length-append, List, [], ◌∷◌, ◌++◌, drop, take, map, Option, None, Some, Ok, Bool, true, false, refl, sym, ap, ◌∙◌, subst, append-nil, append_assoc, drop_at, take_at, arith}
+use Rattle.std.proofs.lemmas.List.Elements.{All-head, All-tail}
+use Rattle.std.specs.Prelude.{All, if◌then◌else◌, option_map}
 use Rattle.sam_frame.specs.Direction.{host, terminal}
 use Rattle.sam_frame.specs.Framing.{GaveUp, Held}
 use Rattle.sam_frame.specs.Reading.{IsStream}
 use Rattle.sam_frame.specs.Stream.{stream_of, version_after}
 use Rattle.sam_frame.proofs.Unique.{one_reading}
 use Rattle.sam_mesg.specs.declared.tmesg.Tmesg.{Tmesg}
+use Rattle.sam_mesg.specs.declared.tmesg.Tmesg.TheVariants.{Tclose, Twrite}
 use Rattle.sam_mesg.specs.declared.hmesg.HFrame.{HFrame}
 use Rattle.sam_mesg.specs.declared.fault.MesgFault.{MesgFault}
 use Rattle.sam_mesg.specs.declared.fault.MesgFault.TheVariants as wrong
 use Rattle.sam_mesg.proofs.TerminalLaws as upwards
+use Rattle.sam_host.specs.Edits.{EditFile, EditsOrChecks, edited_file}
 use Rattle.sam_host.specs.Host.{PlainHost, answer, with_given}
 use Rattle.sam_host.specs.Marking.{marked}
 use Rattle.sam_endpoint.specs.HostEndpoints.{Answered, Answers, PlainHostEndpoint, Serves, Step, TakesIn, writes_of}
@@ -25,7 +28,7 @@ use Rattle.sam_endpoint.specs.declared.step.HostStep.TheVariants as steps
 use Rattle.sam_endpoint.proofs.HostEndpointStepping.{Went, steps_on, went_nowhere}
 use Rattle.sam_link.specs.Packets.{Packet}
 use Rattle.sam_link.specs.Packets.{Packet as packet}
-use Rattle.sam_server.specs.Servers.{Effect, HandsOn, Hear, Pauses, PausesBy, StepsOn, Work, Write, to_write}
+use Rattle.sam_server.specs.Servers.{Effect, HandsOn, Hear, Pauses, PausesBy, StepsOn, Work, effect_of, next_effect, step_effect}
 
 -- ## A piece is read in one way
 
@@ -168,11 +171,25 @@ first_one l k g a b =
     })
     ∙ sym b.after
 
--- ## It is told to write in one place
+-- ## The program has something to do in one place
 
-pub none_first : (a b : List ℕ) → [] ≡ a ++ b → a ≡ []
-none_first [] b is = refl
-none_first (x ∷ a) b is = absurd (cc)
+-- the answers to these messages have the program do nothing
+abbrev pub Silent : PlainHost → List Tmesg → Type 0
+Silent h [] = Unit {0}
+Silent h (m ∷ ms) =
+    (effect_of h m ≡ None) × ((k : PlainHost) (frames : List HFrame) → answer h m ≡ Ok (k, frames) → Silent k ms)
+
+pub some_none : (f : Effect) → Some f ≡ None → ⊥
+some_none f is = cc
+
+none_written : (b : Bool) (f : ℕ) (x : Effect) → (if b then None else Some x) ≡ None → (if b then [] else f ∷ []) ≡ []
+none_written true f x is = refl
+none_written false f x is = absurd (some_none x is)
+
+-- such a host writes nothing
+pub silent_writes : (h : PlainHost) (m : Tmesg) → effect_of h m ≡ None → writes_of h m ≡ []
+silent_writes h (Twrite f) is = none_written h.is_done f _ is
+silent_writes h _ is = refl
 
 pub none_rest : (a b : List ℕ) → [] ≡ a ++ b → b ≡ []
 none_rest [] b is = sym is
@@ -181,49 +198,74 @@ none_rest (x ∷ a) b is = absurd (cc)
 pub same_head : (x y : Tmesg) (xs ys : List Tmesg) → x ∷ xs ≡ y ∷ ys → x ≡ y
 same_head x y xs ys same = cc
 
--- among messages that tell the host to write nothing, none does
-tells_none : (xs ms : List Tmesg) (m : Tmesg) (rest : List Tmesg) (h g z : PlainHost) (fx fm : List HFrame) → ms ≡ xs ++ m ∷ rest
-    → Serves h (map Answered xs) fx [] g → Serves h (map Answered ms) fm [] z → writes_of g m ≡ []
-tells_none [] [] m rest h g z fx fm is x y = absurd (cc)
-tells_none [] (n ∷ ms) m rest h g z fx fm is x (k, first, others, more, answered, frames, writes, serves) =
+-- among silent messages each is
+tells_none : (xs ms : List Tmesg) (m : Tmesg) (rest : List Tmesg) (h g : PlainHost) (fx : List HFrame) (writes : List ℕ)
+    → ms ≡ xs ++ m ∷ rest → Serves h (map Answered xs) fx writes g → Silent h ms → effect_of g m ≡ None
+tells_none [] [] m rest h g fx writes is x silent = absurd (cc)
+tells_none [] (n ∷ ms) m rest h g fx writes is x silent =
     let head : n ≡ m = same_head n m ms rest is in
-    ap (λ (p : PlainHost). writes_of p m) x.2 ∙ ap (writes_of h) (sym head) ∙ none_first (writes_of h n) more writes
-tells_none (a ∷ xs) [] m rest h g z fx fm is x y = absurd (cc)
-tells_none (a ∷ xs) (n ∷ ms) m rest h g z fx fm is (k, f1, f2, more, answered, frames, writes, serves) (j, g1, g2, others, answered_too, frames_too, writes_too, serves_too) =
+    ap (λ (p : PlainHost). effect_of p m) x.2 ∙ ap (effect_of h) (sym head) ∙ silent.0
+tells_none (a ∷ xs) [] m rest h g fx writes is x silent = absurd (cc)
+tells_none (a ∷ xs) (n ∷ ms) m rest h g fx writes is (k, first, others, more, answered, frames, wrote, serves) silent =
     let head : n ≡ a = same_head n a ms (xs ++ m ∷ rest) is in
-    let one = one_answer h k j a n f1 g1 (sym head) answered answered_too in
-    let left : more ≡ [] = none_rest (writes_of h a) more writes in
-    let left_too : others ≡ [] = none_rest (writes_of h n) others writes_too in
-    tells_none xs ms m rest k g z f2 g2 (ap (drop 1) is) (subst (λ w. Serves k (map Answered xs) f2 w g) left serves)
-    (subst (λ p. Serves p (map Answered ms) g2 [] z) (sym one.0)
-    (subst (λ w. Serves j (map Answered ms) g2 w z) left_too serves_too))
+    tells_none xs ms m rest k g others more (ap (drop 1) is) serves
+    (silent.1 k first (ap (answer h) head ∙ answered))
 
--- the first of the messages that tells it to write stands in one place
-pub one_front : (xs ys : List Tmesg) (m n : Tmesg) (r s : List Tmesg) (h g k : PlainHost) (fx fy : List HFrame) → xs ++ m ∷ r ≡ ys ++ n ∷ s
-    → Serves h (map Answered xs) fx [] g → Serves h (map Answered ys) fy [] k → (writes_of g m ≡ [] → ⊥) → (writes_of k n ≡ [] → ⊥)
-    → xs ≡ ys
-one_front [] [] m n r s h g k fx fy same x y some some_too = refl
-one_front [] (b ∷ ys) m n r s h g k fx fy same x (j, f1, f2, more, answered, frames, writes, serves) some some_too =
+-- the first of the messages that is not silent stands in one place
+pub one_front : (xs ys : List Tmesg) (m n : Tmesg) (r s : List Tmesg) (h g k : PlainHost) (fx fy : List HFrame) (wx wy : List ℕ)
+    → xs ++ m ∷ r ≡ ys ++ n ∷ s → Serves h (map Answered xs) fx wx g → Serves h (map Answered ys) fy wy k → Silent h xs → Silent h ys
+    → (effect_of g m ≡ None → ⊥) → (effect_of k n ≡ None → ⊥) → xs ≡ ys
+one_front [] [] m n r s h g k fx fy wx wy same x y quiet quiet_too some some_too = refl
+one_front [] (b ∷ ys) m n r s h g k fx fy wx wy same x y quiet quiet_too some some_too =
     let head : m ≡ b = same_head m b r (ys ++ n ∷ s) same in
-    absurd (some (ap (λ (p : PlainHost). writes_of p m) x.2 ∙ ap (writes_of h) head ∙ none_first (writes_of h b) more writes))
-one_front (a ∷ xs) [] m n r s h g k fx fy same (j, f1, f2, more, answered, frames, writes, serves) y some some_too =
+    absurd (some (ap (λ (p : PlainHost). effect_of p m) x.2 ∙ ap (effect_of h) head ∙ quiet_too.0))
+one_front (a ∷ xs) [] m n r s h g k fx fy wx wy same x y quiet quiet_too some some_too =
     let head : a ≡ n = same_head a n (xs ++ m ∷ r) s same in
-    absurd (some_too (ap (λ (p : PlainHost). writes_of p n) y.2 ∙ ap (writes_of h) (sym head) ∙ none_first (writes_of h a) more writes))
-one_front (a ∷ xs) (b ∷ ys) m n r s h g k fx fy same (j, f1, f2, more, answered, frames, writes, serves) (i, g1, g2, others, answered_too, frames_too, writes_too, serves_too) some some_too =
+    absurd (some_too (ap (λ (p : PlainHost). effect_of p n) y.2 ∙ ap (effect_of h) (sym head) ∙ quiet.0))
+one_front (a ∷ xs) (b ∷ ys) m n r s h g k fx fy wx wy same (j, f1, f2, more, answered, frames, writes, serves) (i, g1, g2, others, answered_too, frames_too, writes_too, serves_too) quiet quiet_too some some_too =
     let head : a ≡ b = same_head a b (xs ++ m ∷ r) (ys ++ n ∷ s) same in
     let one = one_answer h j i a b f1 g1 head answered answered_too in
-    let left : more ≡ [] = none_rest (writes_of h a) more writes in
-    let left_too : others ≡ [] = none_rest (writes_of h b) others writes_too in
     let rest : xs ≡ ys =
-    one_front xs ys m n r s j g k f2 g2 (ap (drop 1) same) (subst (λ w. Serves j (map Answered xs) f2 w g) left serves)
-    (subst (λ p. Serves p (map Answered ys) g2 [] k) (sym one.0)
-    (subst (λ w. Serves i (map Answered ys) g2 w k) left_too serves_too)) some some_too in
+    one_front xs ys m n r s j g k f2 g2 more others (ap (drop 1) same) serves
+    (subst (λ p. Serves p (map Answered ys) g2 others k) (sym one.0) serves_too) (quiet.1 j f1 answered)
+    (quiet_too.1 j f1 (ap (answer h) (sym head) ∙ answered)) some some_too in
     λ t. head t ∷ rest t
 
--- some messages were answered, and none told it to write
+-- silent messages behind others
+silent_then : (xs ms : List Tmesg) (h g : PlainHost) (frames : List HFrame) (writes : List ℕ) → Serves h (map Answered xs) frames writes g
+    → Silent h xs → Silent g ms → Silent h (xs ++ ms)
+silent_then [] ms h g frames writes x quiet more = subst (λ (p : PlainHost). Silent p ms) x.2 more
+silent_then (a ∷ xs) ms h g frames writes (k, first, others, rest, answered, is, wrote, serves) quiet more = (
+  quiet.0,
+  λ j f1 answered_too.
+      subst (λ (p : PlainHost). Silent p (xs ++ ms)) (one_answer h k j a a first f1 refl answered answered_too).0
+      (silent_then xs ms k g others rest serves (quiet.1 k first answered) more),
+)
+
+edit_silent : (f : ℕ) (h : PlainHost) (m : Tmesg) → edited_file m ≡ Some f → effect_of h m ≡ None
+edit_silent f h (Twrite g) is = absurd (cc)
+edit_silent f h (Tclose g) is = absurd (cc)
+edit_silent f h _ is = refl
+
+one_silent : (f : ℕ) (h : PlainHost) (m : Tmesg) → EditsOrChecks f m → effect_of h m ≡ None
+one_silent f h m (inl is) = edit_silent f h m is
+one_silent f h m (inr (g, is)) = ap (effect_of h) is
+
+all_silent : (f : ℕ) (h : PlainHost) (ms : List Tmesg) → All (EditsOrChecks f) ms → Silent h ms
+all_silent f h [] all = tt
+all_silent f h (m ∷ ms) all =
+    (one_silent f h m (All-head (EditsOrChecks f) m ms all), λ k frames answered. all_silent f k ms (All-tail (EditsOrChecks f) m ms all))
+
+-- edits are silent
+edits_silent : (f : ℕ) (h : PlainHost) (ms : List Tmesg) → EditFile f ms → Silent h ms
+edits_silent f h [] edits = tt
+edits_silent f h (m ∷ ms) edits = (edit_silent f h m edits.0, λ k frames answered. all_silent f k ms edits.1)
+
+-- some messages were answered, and the program has nothing to do
 pub record Quietly (e l : PlainHostEndpoint) : Type 0 where
   pub went : Went e l
   pub quiet : l.writes ≡ []
+  pub silent : Silent e.host went.messages
 
 none_told : (e l : PlainHostEndpoint) (q : Quietly e l) → q.went.answers.more ≡ []
 none_told e l q = none_rest e.writes q.went.answers.more (sym q.quiet ∙ q.went.answers.writes)
@@ -233,18 +275,76 @@ pub serves_quietly : (e l : PlainHostEndpoint) (q : Quietly e l)
 serves_quietly e l q =
     subst (λ w. Serves e.host (map Answered q.went.messages) q.went.answers.frames w l.host) (none_told e l q) q.went.answers.serves
 
+-- a step that writes frames has the program do nothing
+wrote_nothing : (frames : List HFrame) (h : PlainHost) (ms : List Tmesg) → 0 < length frames → step_effect frames h ms ≡ None
+wrote_nothing [] h ms some = absurd (omega (arith, some))
+wrote_nothing (f ∷ fs) h ms some = refl
+
+-- nor does one that takes edits
+edited_nothing : (f : ℕ) (h : PlainHost) (ms rest : List Tmesg) → 0 < length ms → EditFile f ms → step_effect [] h (ms ++ rest) ≡ None
+edited_nothing f h [] rest some edits = absurd (omega (arith, some))
+edited_nothing f h (m ∷ ms) rest some edits = edit_silent f h m edits.0
+
+-- one that answers has it do what its message says
+pub answered_effect : (l k : PlainHostEndpoint) (first : AnswersFirst l k) → l.unwritten ≡ [] → next_effect l ≡ effect_of l.host first.message
+answered_effect l k first written = λ i. step_effect (written i) l.host (first.waited i)
+
+same_front : (a b c : List Tmesg) → a ++ c ≡ b ++ c → a ≡ b
+same_front a b c same =
+    let long : length b ≡ length a = omega (arith, ap length same, length-append a c, length-append b c) in
+    sym (take_at a c (length a) refl) ∙ ap (take (length a)) same ∙ take_at b c (length a) long
+
+-- what was answered behind a step
+messages_on : (e l k : PlainHostEndpoint) (x : Went e l) (y : Went e k) (ms : List Tmesg) → l.waiting ≡ ms ++ k.waiting
+    → x.messages ++ ms ≡ y.messages
+messages_on e l k x y ms is =
+    same_front (x.messages ++ ms) y.messages k.waiting
+    (append_assoc x.messages ms k.waiting ∙ ap (λ (w : List Tmesg). x.messages ++ w) (sym is) ∙ sym x.answers.waiting ∙ y.answers.waiting)
+
+quiet_by : (e l k : PlainHostEndpoint) (ms : List Tmesg) (y : Went e k) → Quietly e l → l.waiting ≡ ms ++ k.waiting → k.writes ≡ []
+    → Silent l.host ms → Quietly e k
+quiet_by e l k ms y q is quiet silent = record {
+  went = y;
+  quiet = quiet;
+  silent =
+      subst (λ (w : List Tmesg). Silent e.host w) (messages_on e l k q.went y ms is)
+      (silent_then q.went.messages ms e.host l.host q.went.answers.frames q.went.answers.more q.went.answers.serves q.silent silent);
+}
+
+-- a step that has the program do nothing
+pub quiet_on : (e l k : PlainHostEndpoint) (step : HostStep) → Quietly e l → Steps l (Ok step) k → next_effect l ≡ None → Quietly e k
+quiet_on e l k steps.Idle q does none =
+    quiet_by e l k [] (steps_on e l k steps.Idle q.went does) q (ap (λ (p : PlainHostEndpoint). p.waiting) (sym does.1))
+    (ap (λ (p : PlainHostEndpoint). p.writes) does.1 ∙ q.quiet) tt
+quiet_on e l k steps.Wrote q does none =
+    quiet_by e l k [] (steps_on e l k steps.Wrote q.went does) q (ap (λ (p : PlainHostEndpoint). p.waiting) (sym does.2))
+    (ap (λ (p : PlainHostEndpoint). p.writes) does.2 ∙ q.quiet) tt
+quiet_on e l k (steps.Edited tag count) q does none =
+    let took = does.1.edits in
+    quiet_by e l k took.messages (steps_on e l k (steps.Edited tag count) q.went does) q
+    (took.waited ∙ ap (λ (p : PlainHostEndpoint). took.messages ++ p.waiting) (sym took.after))
+    (ap (λ (p : PlainHostEndpoint). p.writes) took.after ∙ q.quiet) (edits_silent tag l.host took.messages does.1.one_file)
+quiet_on e l k (steps.Answered kind tag) q does none =
+    let first = does.1.first in
+    let silent : effect_of l.host first.message ≡ None = sym (answered_effect l k first does.0.1) ∙ none in
+    quiet_by e l k (first.message ∷ []) (steps_on e l k (steps.Answered kind tag) q.went does) q
+    (first.waited ∙ ap (λ (p : PlainHostEndpoint). first.message ∷ p.waiting) (sym first.after))
+    (ap (λ (p : PlainHostEndpoint). p.writes) first.after
+    ∙ ap (λ (w : List ℕ). w ++ writes_of l.host first.message) q.quiet ∙ silent_writes l.host first.message silent)
+    (silent, λ j frames answered. tt)
+
 -- then nothing is left
 pub record Readied (e l : PlainHostEndpoint) : Type 0 where
   pub quietly : Quietly e l
   pub ready : IsReady l
 
--- then the oldest message tells it to write
-pub record Told (e k : PlainHostEndpoint) : Type 0 where
+-- then the answer to the oldest message has the program do this
+pub record Told (e k : PlainHostEndpoint) (f : Effect) : Type 0 where
   pub middle : PlainHostEndpoint
   pub quietly : Quietly e middle
   pub written : middle.unwritten ≡ []
   pub first : AnswersFirst middle k
-  pub some : k.writes ≡ [] → ⊥
+  pub tells : effect_of middle.host first.message ≡ Some f
 
 pub all_answered : (e l : PlainHostEndpoint) (x : Readied e l) → e.waiting ≡ x.quietly.went.messages
 all_answered e l x =
@@ -257,43 +357,48 @@ one_ready e l k x y =
     one_after e l k y.quietly.went.messages (subst (λ (ms : List Tmesg). Answers e ms l) same x.quietly.went.answers)
     y.quietly.went.answers x.ready.1.0.unwritten y.ready.1.0.unwritten x.ready.0 y.ready.0
 
-pub told_by : (e k : PlainHostEndpoint) (x : Told e k) → writes_of x.middle.host x.first.message ≡ [] → ⊥
-told_by e k x none =
-    x.some (ap (λ (p : PlainHostEndpoint). p.writes) x.first.after
-    ∙ ap (λ (w : List ℕ). w ++ writes_of x.middle.host x.first.message) x.quietly.quiet ∙ none)
+pub told_by : (e k : PlainHostEndpoint) (f : Effect) (x : Told e k f) → effect_of x.middle.host x.first.message ≡ None → ⊥
+told_by e k f x none = some_none f (sym x.tells ∙ none)
 
-pub told_at : (e k : PlainHostEndpoint) (x : Told e k) → e.waiting ≡ x.quietly.went.messages ++ x.first.message ∷ x.first.rest
-told_at e k x =
+pub told_at : (e k : PlainHostEndpoint) (f : Effect) (x : Told e k f)
+    → e.waiting ≡ x.quietly.went.messages ++ x.first.message ∷ x.first.rest
+told_at e k f x =
     x.quietly.went.answers.waiting ∙ ap (λ (rest : List Tmesg). x.quietly.went.messages ++ rest) x.first.waited
 
-pub one_told : (e k j : PlainHostEndpoint) → Told e k → Told e j → k ≡ j
-one_told e k j x y =
+same_effect : (f g : Effect) → Some f ≡ Some g → f ≡ g
+same_effect f g is = cc
+
+pub one_told : (e k j : PlainHostEndpoint) (f g : Effect) → Told e k f → Told e j g → (k ≡ j) × (f ≡ g)
+one_told e k j f g x y =
+    let waits = sym (told_at e k f x) ∙ told_at e j g y in
     let front : x.quietly.went.messages ≡ y.quietly.went.messages =
     one_front x.quietly.went.messages y.quietly.went.messages x.first.message y.first.message x.first.rest y.first.rest e.host
-    x.middle.host y.middle.host x.quietly.went.answers.frames y.quietly.went.answers.frames
-    (sym (told_at e k x) ∙ told_at e j y)
+    x.middle.host y.middle.host x.quietly.went.answers.frames y.quietly.went.answers.frames [] [] waits
     (serves_quietly e x.middle x.quietly)
-    (serves_quietly e y.middle y.quietly) (told_by e k x) (told_by e j y) in
+    (serves_quietly e y.middle y.quietly) x.quietly.silent y.quietly.silent (told_by e k f x) (told_by e j g y) in
     let middle : x.middle ≡ y.middle =
     one_after e x.middle y.middle y.quietly.went.messages
     (subst (λ (ms : List Tmesg). Answers e ms x.middle) front x.quietly.went.answers) y.quietly.went.answers x.written y.written
     x.quietly.went.goes y.quietly.went.goes in
-    first_one y.middle k j (subst (λ (p : PlainHostEndpoint). AnswersFirst p k) middle x.first) y.first
+    let message : x.first.message ≡ y.first.message =
+    same_head x.first.message y.first.message x.first.rest y.first.rest
+    (after_same y.quietly.went.messages (x.first.message ∷ x.first.rest) (y.first.message ∷ y.first.rest)
+    (ap (λ (ms : List Tmesg). ms ++ x.first.message ∷ x.first.rest) (sym front) ∙ waits)) in (
+      first_one y.middle k j (subst (λ (p : PlainHostEndpoint). AnswersFirst p k) middle x.first) y.first,
+      same_effect f g (sym x.tells ∙ (λ i. effect_of (middle i).host (message i)) ∙ y.tells),
+    )
 
-pub not_both : (e l k : PlainHostEndpoint) → Readied e l → Told e k → ⊥
-not_both e l k x y =
-    told_by e k y (tells_none y.quietly.went.messages x.quietly.went.messages y.first.message y.first.rest e.host y.middle.host l.host
-    y.quietly.went.answers.frames x.quietly.went.answers.frames
-    (sym (all_answered e l x) ∙ told_at e k y)
-    (serves_quietly e y.middle y.quietly) (serves_quietly e l x.quietly))
+pub not_both : (e l k : PlainHostEndpoint) (f : Effect) → Readied e l → Told e k f → ⊥
+not_both e l k f x y =
+    told_by e k f y (tells_none y.quietly.went.messages x.quietly.went.messages y.first.message y.first.rest e.host y.middle.host
+    y.quietly.went.answers.frames []
+    (sym (all_answered e l x) ∙ told_at e k f y)
+    (serves_quietly e y.middle y.quietly) x.quietly.silent)
 
 -- ## Where it pauses
 
 abbrev pub at : List Packet → PlainHostEndpoint → Option Effect → Work
 at ps e effect = record { packets = ps; host = e; effect = effect }
-
-some_none : (f : Effect) → Some f ≡ None → ⊥
-some_none f is = cc
 
 at_once : (n : ℕ) (ps : List Packet) (e : PlainHostEndpoint) (f : Effect) (v : Work) → PausesBy n (at ps e (Some f)) v
     → v ≡ at ps e (Some f)
@@ -307,44 +412,53 @@ After ps l v = ((ps ≡ []) × (v ≡ at ps l None)) ⊎ ((m : Work) × HandsOn 
 abbrev pub Phase : List Packet → PlainHostEndpoint → Work → Type 0
 Phase ps e v =
     ((l : PlainHostEndpoint) × Readied e l × After ps l v)
-    ⊎ ((k : PlainHostEndpoint) × Told e k × (v ≡ at ps (record k { writes = [] }) (to_write k.writes)))
+    ⊎ ((k : PlainHostEndpoint) × (f : Effect) × Told e k f × (v ≡ at ps (record k { writes = [] }) (Some f)))
 
 idle_not : (A : Type 0) (step : HostStep) → step ≢ steps.Idle → step ≡ steps.Idle → A
 idle_not A step some is = absurd (some is)
 
-some_left : (f : ℕ) (fs writes : List ℕ) → writes ≡ f ∷ fs → writes ≡ [] → ⊥
-some_left f fs writes is none = cc
+nothing_else : (A : Type 0) (f : Effect) (x : Option Effect) → x ≡ Some f → x ≡ None → A
+nothing_else A f x is none = absurd (some_none f (sym is ∙ none))
 
--- only an answer tells it to write
-pub told_to : (e l k : PlainHostEndpoint) (step : HostStep) (f : ℕ) (fs : List ℕ) → Quietly e l → step ≢ steps.Idle → Steps l (Ok step) k
-    → k.writes ≡ f ∷ fs → Told e k
-told_to e l k steps.Idle f fs q some does is = idle_not (Told e k) steps.Idle some refl
-told_to e l k steps.Wrote f fs q some (going, waits, same) is =
-    absurd (some_left f fs k.writes is (ap (λ (p : PlainHostEndpoint). p.writes) same ∙ q.quiet))
-told_to e l k (steps.Edited tag count) f fs q some (written, took) is =
-    absurd (some_left f fs k.writes is (ap (λ (p : PlainHostEndpoint). p.writes) took.edits.after ∙ q.quiet))
-told_to e l k (steps.Answered kind tag) f fs q some (written, did) is =
-    record { middle = l; quietly = q; written = written.1; first = did.first; some = some_left f fs k.writes is }
+-- only an answer has the program do something
+pub told_to : (e l k : PlainHostEndpoint) (step : HostStep) (f : Effect) → Quietly e l → step ≢ steps.Idle → Steps l (Ok step) k
+    → next_effect l ≡ Some f → Told e k f
+told_to e l k steps.Idle f q some does is = idle_not (Told e k f) steps.Idle some refl
+told_to e l k steps.Wrote f q some does is =
+    nothing_else (Told e k f) f (next_effect l) is (wrote_nothing l.unwritten l.host l.waiting does.1)
+told_to e l k (steps.Edited tag count) f q some does is =
+    let took = does.1.edits in
+    nothing_else (Told e k f) f (next_effect l) is
+    ((λ i. step_effect (does.0.1 i) l.host (took.waited i))
+    ∙ edited_nothing tag l.host took.messages took.rest took.some does.1.one_file)
+told_to e l k (steps.Answered kind tag) f q some does is = record {
+  middle = l;
+  quietly = q;
+  written = does.0.1;
+  first = does.1.first;
+  tells = sym (answered_effect l k does.1.first does.0.1) ∙ is;
+}
 
 -- a step is made, and then it goes on or pauses
-stepped_by : (writes : List ℕ) (n : ℕ) (ps : List Packet) (e l k : PlainHostEndpoint) (step : HostStep) (m v : Work) → k.writes ≡ writes
-    → Quietly e l → step ≢ steps.Idle → Steps l (Ok step) k → m ≡ at ps (record k { writes = [] }) (to_write writes) → PausesBy n m v
-    → ((q : Quietly e k) → PausesBy n (at ps k None) v → Phase ps e v) → Phase ps e v
-stepped_by [] n ps e l k step m v none q some does is pauses so =
-    let here : m ≡ at ps k None = is ∙ ap (λ (w : List ℕ). at ps (record k { writes = w }) None) (sym none) in
-    so (record { went = steps_on e l k step q.went does; quiet = none }) (subst (λ (x : Work). PausesBy n x v) here pauses)
-stepped_by (f ∷ fs) n ps e l k step m v told q some does is pauses so =
+stepped_by : (effect : Option Effect) (n : ℕ) (ps : List Packet) (e l k : PlainHostEndpoint) (step : HostStep) (m v : Work)
+    → next_effect l ≡ effect → Quietly e l → step ≢ steps.Idle → Steps l (Ok step) k → m ≡ at ps (record k { writes = [] }) effect
+    → PausesBy n m v → ((q : Quietly e k) → PausesBy n (at ps k None) v → Phase ps e v) → Phase ps e v
+stepped_by None n ps e l k step m v none q some does is pauses so =
+    let still = quiet_on e l k step q does none in
+    let here : m ≡ at ps k None = is ∙ ap (λ (w : List ℕ). at ps (record k { writes = w }) None) (sym still.quiet) in
+    so still (subst (λ (x : Work). PausesBy n x v) here pauses)
+stepped_by (Some f) n ps e l k step m v told q some does is pauses so =
     inr (
       k,
-      told_to e l k step f fs q some does told,
-      at_once n ps (record k { writes = [] }) (Write f) v (subst (λ (x : Work). PausesBy n x v) is pauses)
-          ∙ ap (λ (w : List ℕ). at ps (record k { writes = [] }) (to_write w)) (sym told),
+      f,
+      told_to e l k step f q some does told,
+      at_once n ps (record k { writes = [] }) f v (subst (λ (x : Work). PausesBy n x v) is pauses),
     )
 
 phase : (n : ℕ) (ps : List Packet) (e l : PlainHostEndpoint) (v : Work) → Quietly e l → PausesBy n (at ps l None) v → Phase ps e v
 phase zero ps e l v q (paused, is) = inl (l, record { quietly = q; ready = paused.0 }, inl (paused.1, is))
 phase (suc n) ps e l v q (none, m, inl (step, k, some, does, is), more) =
-    stepped_by k.writes n ps e l k step m v refl q some does is more (λ still rest. phase n ps e k v still rest)
+    stepped_by (next_effect l) n ps e l k step m v refl q some does is more (λ still rest. phase n ps e k v still rest)
 phase (suc n) [] e l v q (none, m, inr hands, more) = absurd hands
 phase (suc n) (packet.Data bytes ∷ ps) e l v q (none, m, inr hands, more) =
     inl (l, record { quietly = q; ready = hands.1.0 }, inr (m, hands, (n, more)))
@@ -358,10 +472,11 @@ alike : (ps : List Packet) (e : PlainHostEndpoint) (a b : Work) → Phase ps e a
     → ((l : PlainHostEndpoint) → l.writes ≡ [] → After ps l a → After ps l b → a ≡ b) → a ≡ b
 alike ps e a b (inl (l, x, rest)) (inl (k, y, rest_too)) so =
     so l x.quietly.quiet rest (subst (λ (p : PlainHostEndpoint). After ps p b) (sym (one_ready e l k x y)) rest_too)
-alike ps e a b (inl (l, x, rest)) (inr (k, y, is)) so = absurd (not_both e l k x y)
-alike ps e a b (inr (k, x, is)) (inl (l, y, rest)) so = absurd (not_both e l k y x)
-alike ps e a b (inr (k, x, is)) (inr (j, y, is_too)) so =
-    is ∙ ap (λ (p : PlainHostEndpoint). at ps (record p { writes = [] }) (to_write p.writes)) (one_told e k j x y) ∙ sym is_too
+alike ps e a b (inl (l, x, rest)) (inr (k, f, y, is)) so = absurd (not_both e l k f x y)
+alike ps e a b (inr (k, f, x, is)) (inl (l, y, rest)) so = absurd (not_both e l k f y x)
+alike ps e a b (inr (k, f, x, is)) (inr (j, g, y, is_too)) so =
+    let one = one_told e k j f g x y in
+    is ∙ (λ i. at ps (record (one.0 i) { writes = [] }) (Some (one.1 i))) ∙ sym is_too
 
 some_packet : (p : Packet) (ps : List Packet) → p ∷ ps ≡ [] → ⊥
 some_packet p ps is = cc
@@ -393,7 +508,11 @@ after_note bytes ps l a b (inr (m, (ready, is), pauses)) (inr (n, (ready_too, is
     ∙ sym (at_once pauses_too.0 ps l (Hear bytes) b (subst (λ (w : Work). PausesBy pauses_too.0 w b) is_too pauses_too.1))
 
 pub stands : (e : PlainHostEndpoint) → e.stop ≡ None → e.writes ≡ [] → Quietly e e
-stands e goes quiet = record { went = went_nowhere e goes; quiet = quiet }
+stands e goes quiet =
+    let went = went_nowhere e goes in
+    let none : [] ≡ went.messages =
+    same_front [] went.messages e.waiting went.answers.waiting in
+    record { went = went; quiet = quiet; silent = subst (λ (ms : List Tmesg). Silent e.host ms) none tt }
 
 after_acknowledge : (count : ℕ) (ps : List Packet) (l : PlainHostEndpoint) (a b : Work) → After (packet.Acknowledge count ∷ ps) l a
     → After (packet.Acknowledge count ∷ ps) l b → a ≡ b

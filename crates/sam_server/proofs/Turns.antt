@@ -1,7 +1,7 @@
 -- What the parts of a turn do, and where what is left leads.
 use Rattle.std.proofs.Common.{◌≡◌, ◌≢◌, ◌⊎◌, inl, inr, ℕ, zero, suc, ◌+◌, ◌*◌, ◌^◌, ◌<◌, ◌≤◌, List, [], ◌∷◌, ◌++◌, length, take, drop, Bool, true, false, true≢false, None, Some, Option, Result, Ok, Err, refl, sym, ap, ◌∙◌, subst, arith, length-append}
 use Rattle.std.proofs.lemmas.List.{drop_all}
-use Rattle.std.specs.Prelude.{if◌then◌else◌, is_some, option_map, slice_get}
+use Rattle.std.specs.Prelude.{if◌then◌else◌, is_some, option_map}
 use Rattle.sam_mesg.specs.declared.tmesg.Tmesg.{Tmesg}
 use Rattle.sam_mesg.specs.declared.tmesg.Tmesg.TheVariants.{Twrite}
 use Rattle.sam_mesg.specs.declared.hmesg.HFrame.{HFrame}
@@ -31,7 +31,7 @@ use Rattle.sam_endpoint.specs.declared.step.BringFault.TheVariants as bring
 use Rattle.sam_endpoint.specs.declared.step.HostStep.{HostStep}
 use Rattle.sam_endpoint.specs.declared.step.HostStep.TheVariants as steps
 use Rattle.sam_server.specs.HostLinks.{HandsOut}
-use Rattle.sam_server.specs.Servers.{Effect, HandsOn, Hear, IsPausedAt, Pauses, PausesBy, PutsAnswers, Server, StepsOn, Work, Write, to_write, waits_for, with_work}
+use Rattle.sam_server.specs.Servers.{Effect, HandsOn, Hear, IsPausedAt, Pauses, PausesBy, PutsAnswers, Server, StepsOn, Work, next_effect, step_effect, waits_for, with_work}
 use Rattle.sam_server.specs.Turns.{BreaksOff, Brought, Fetched, Finished, Finishes, GoesOn, Handed, HandedNext, IsHanded, IsHolding, IsResting, IsStill, IsStillAt, MayHold, Nears, PlainTurn, Stepped, held_in, hosted, left_in, plain_effect, some_left, steps_left, told_of_bring, told_of_step, work_of}
 use Rattle.sam_server.specs.declared.turn.Stop.TheVariants as stop
 use Rattle.sam_server.specs.declared.turn.TurnFault.{TurnFault}
@@ -160,12 +160,12 @@ abbrev pub stepped : PlainTurn → PlainHostEndpoint → Option Effect → Plain
 stepped t k effect = record t { server = record t.server { host = record k { writes = drop 1 k.writes }; effect = effect } }
 
 stepped_on : (t : PlainTurn) (step : HostStep) (k : PlainHostEndpoint) (effect : Option Effect) → t.server.effect ≡ None
-    → t.server.host.writes ≡ [] → step ≢ steps.Idle → Steps t.server.host (Ok step) k → effect ≡ to_write k.writes
+    → t.server.host.writes ≡ [] → step ≢ steps.Idle → Steps t.server.host (Ok step) k → effect ≡ next_effect t.server.host
     → Stepped t (Ok true) (stepped t k effect)
 stepped_on t step k effect none quiet some does is =
     let rest : drop 1 k.writes ≡ [] = one_written t.server.host k step quiet does in
     let work : work_of (stepped t k effect)
-    ≡ record { packets = left_in t; host = record k { writes = [] }; effect = to_write k.writes } =
+    ≡ record { packets = left_in t; host = record k { writes = [] }; effect = next_effect t.server.host } =
     λ i. record { packets = left_in t; host = record k { writes = rest i }; effect = is i } in (
       record {
         near = moved t (stepped t k effect) none quiet (inl (step, k, some, does, work)) (λ ps. refl);
@@ -186,13 +186,14 @@ never b why r is is_too = cc
 
 -- what a step says
 pub step_told : (t : PlainTurn) (r : Result HostStep (EndpointFault HostStop)) (k : PlainHostEndpoint) (did : Bool) (effect : Option Effect)
-    → t.server.effect ≡ None → t.server.host.writes ≡ [] → Steps t.server.host r k → told_of_step r ≡ Ok did → effect ≡ to_write k.writes
+    → t.server.effect ≡ None → t.server.host.writes ≡ [] → Steps t.server.host r k → told_of_step r ≡ Ok did → effect ≡ next_effect t.server.host
     → Stepped t (Ok did) (stepped t k effect)
 step_told t (Ok steps.Idle) k did effect none quiet does told is =
     let same : t.server.host ≡ record k { writes = drop 1 k.writes } =
     ap (λ (l : List ℕ). record t.server.host { writes = l }) (quiet ∙ sym (ap (drop 1) quiet))
     ∙ ap (λ (x : PlainHostEndpoint). record x { writes = drop 1 x.writes }) (sym does.1) in
-    let writes : effect ≡ t.server.effect = is ∙ ap (λ (x : PlainHostEndpoint). to_write x.writes) does.1 ∙ ap to_write quiet ∙ sym none in
+    let idle : next_effect t.server.host ≡ None = λ i. step_effect (does.0.1.0.unwritten i) t.server.host.host (does.0.1.0.waiting i) in
+    let writes : effect ≡ t.server.effect = is ∙ idle ∙ sym none in
     subst (λ (b : Bool). Stepped t (Ok b) (stepped t k effect)) (ok_same false did (told_of_step (Ok steps.Idle)) refl told) (
       (λ i. record t { server = record t.server { host = sym same i; effect = writes i } }),
       subst (λ (x : Option Effect). IsStillAt x t.server.host) (sym none) does.0,
@@ -234,17 +235,6 @@ step_broke t (Err endpoint.Unfinished) k why none quiet does told =
     (subst (λ (x : PlainHostEndpoint). Nears t (hosted t x)) (sym does.2) (nears_itself t))
 step_broke t (Err endpoint.OutOfMemory) k why none quiet does told = absurd does
 step_broke t (Err endpoint.CountFull) k why none quiet does told = absurd does
-
--- the file that is to be written is an effect
-pub some_write : (writes : List ℕ) (f : ℕ) → Some f ≡ slice_get writes 0 → Some (Write f) ≡ to_write writes
-some_write [] f is = absurd (cc)
-some_write (g ∷ writes) f is = let same : f ≡ g = cc in ap (λ n. Some (Write n)) same
-
-pub none_write : (writes : List ℕ) → None ≡ slice_get writes 0 → None ≡ to_write writes
-none_write [] is = refl
-none_write (g ∷ writes) is = absurd (cc)
-
-pub ruleset write_facts = (some_write, none_write)
 
 pub still_by_effect : (t : PlainTurn) (e : Effect) → t.server.effect ≡ Some e → IsStill t
 still_by_effect t e is = subst (λ (x : Option Effect). IsStillAt x t.server.host) (sym is) tt

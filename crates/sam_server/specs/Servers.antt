@@ -1,5 +1,10 @@
 -- A server: a host endpoint, its end of a link, and the records of what it was given, which alone decide it.
-use Rattle.std.specs.Prelude.{◌≡◌, ◌≢◌, ◌⊎◌, ℕ, zero, suc, List, [], ◌∷◌, length, Option, None, Some, Ok}
+use Rattle.std.specs.Prelude.{◌≡◌, ◌≢◌, ◌⊎◌, ℕ, zero, suc, List, [], ◌∷◌, length, if◌then◌else◌, Option, None, Some, Ok}
+use Rattle.std.specs.Str.{encode_utf8_all}
+use Rattle.sam_mesg.specs.declared.hmesg.HFrame.{HFrame}
+use Rattle.sam_mesg.specs.declared.tmesg.Tmesg.{Tmesg}
+use Rattle.sam_mesg.specs.declared.tmesg.Tmesg.TheVariants.{Tversion, Tstartcmdfile, Tcheck, Trequest, Torigin, Tstartfile, Tworkfile, Ttype, Tcut, Tpaste, Tsnarf, Tstartnewfile, Twrite, Tclose, Tlook, Tsearch, Tsend, Tdclick, Tstartsnarf, Tsetsnarf, Tack, Texit}
+use Rattle.sam_text.specs.Files.{PlainFile, file_at}
 use Rattle.sam_link.specs.Calls.{Does}
 use Rattle.sam_link.specs.Calls.Call.{Acknowledge, Answer, Ask, Feed, Put, PutNote}
 use Rattle.sam_link.specs.End.{End, fresh}
@@ -9,7 +14,7 @@ use Rattle.sam_link.specs.declared.hello.Id.{Id}
 use Rattle.sam_link.specs.declared.phase.Phase.{Phase}
 use Rattle.sam_link.specs.declared.phase.Phase.TheVariants.{Asking, Down, Open}
 use Rattle.sam_link.specs.declared.phase.Role.TheVariants.{Host}
-use Rattle.sam_host.specs.Host.{new_host}
+use Rattle.sam_host.specs.Host.{PlainHost, new_host}
 use Rattle.sam_endpoint.specs.HostEndpoints.{Adds, Marks, PlainHostEndpoint}
 use Rattle.sam_endpoint.specs.HostRuns.{begun_with}
 use Rattle.sam_endpoint.specs.HostStepping.{BringsIn, IsReady, Steps}
@@ -21,6 +26,7 @@ pub use Rattle.sam_server.specs.Records.{Acknowledged, Asked, Called, Came, Done
 pub data Effect : Type 0 where
   Write : ℕ → Effect  -- the saved text of this file is to be written
   Hear : List ℕ → Effect  -- the terminal said this message
+  Close : ℕ → List ℕ → List ℕ → Effect  -- this file was closed while it was dirty: here are its name and its text, in UTF-8
 
 pub record Server : Type 0 where
   pub link : End
@@ -38,16 +44,52 @@ pub record Work : Type 0 where
   pub host : PlainHostEndpoint
   pub effect : Option Effect
 
--- the endpoint is told to write the first of these files, if there is one
-abbrev pub to_write : List ℕ → Option Effect
-to_write [] = None
-to_write (f ∷ fs) = Some (Write f)
+-- a dirty file is told of as it goes
+abbrev pub close_of : ℕ → PlainFile → Option Effect
+close_of f file = if file.dirty then Some (Close f (encode_utf8_all file.name) (encode_utf8_all file.text)) else None
 
--- the endpoint goes on by a step; where that tells it to write, an effect waits
+-- what a host's answer to this message has the program do; a host that is done does nothing
+abbrev pub effect_of : PlainHost → Tmesg → Option Effect
+effect_of h (Tversion v) = None
+effect_of h Tstartcmdfile = None
+effect_of h (Tcheck f) = None
+effect_of h (Trequest f p n) = None
+effect_of h (Torigin f p n) = None
+effect_of h (Tstartfile f) = None
+effect_of h (Tworkfile f p q) = None
+effect_of h (Ttype f p s) = None
+effect_of h (Tcut f p q) = None
+effect_of h (Tpaste f p) = None
+effect_of h (Tsnarf f p q) = None
+effect_of h Tstartnewfile = None
+effect_of h (Twrite f) = if h.is_done then None else Some (Write f)
+effect_of h (Tclose f) = if h.is_done then None else close_of f (file_at h.files f)
+effect_of h (Tlook f p q) = None
+effect_of h (Tsearch f p q) = None
+effect_of h (Tsend f p q) = None
+effect_of h (Tdclick f p) = None
+effect_of h Tstartsnarf = None
+effect_of h (Tsetsnarf s) = None
+effect_of h Tack = None
+effect_of h Texit = None
+
+abbrev pub first_effect : PlainHost → List Tmesg → Option Effect
+first_effect h [] = None
+first_effect h (message ∷ messages) = effect_of h message
+
+-- what the next step of an endpoint has the program do: it writes the frames that are left over, or answers the oldest message
+abbrev pub step_effect : List HFrame → PlainHost → List Tmesg → Option Effect
+step_effect [] h messages = first_effect h messages
+step_effect (frame ∷ frames) h messages = None
+
+abbrev pub next_effect : PlainHostEndpoint → Option Effect
+next_effect e = step_effect e.unwritten e.host e.waiting
+
+-- the endpoint goes on by a step; where the program has something to do then, an effect waits
 abbrev pub StepsOn : Work → Work → Type 0
 StepsOn w v =
     (step : HostStep) × (k : PlainHostEndpoint) × (step ≢ Idle) × Steps w.host (Ok step) k
-    × (v ≡ record { packets = w.packets; host = record k { writes = [] }; effect = to_write k.writes })
+    × (v ≡ record { packets = w.packets; host = record k { writes = [] }; effect = next_effect w.host })
 
 -- Where the endpoint is ready, it takes the bytes of the first packet in; what the terminal's program said is an effect. Acknowledgements
 -- and questions are never among what waits

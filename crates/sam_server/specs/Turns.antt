@@ -13,7 +13,7 @@ use Rattle.sam_endpoint.specs.declared.step.BringFault.{BringFault}
 use Rattle.sam_endpoint.specs.declared.step.BringFault.TheVariants as bring
 use Rattle.sam_endpoint.specs.declared.step.HostStep.{HostStep}
 use Rattle.sam_endpoint.specs.declared.step.HostStep.TheVariants as steps
-use Rattle.sam_server.specs.Servers.{Effect, Hear, IsPausedAt, Pauses, PutsAnswers, Server, Work, Write, with_work}
+use Rattle.sam_server.specs.Servers.{Close, Effect, Hear, IsPausedAt, Pauses, PutsAnswers, Server, Work, Write, with_work}
 use Rattle.sam_server.specs.declared.effect.Effect as declared
 use Rattle.sam_server.specs.declared.effect.Effect.TheVariants as effect
 use Rattle.sam_server.specs.declared.host_link.Next.{Next}
@@ -25,6 +25,7 @@ use Rattle.sam_server.specs.declared.turn.TurnFault.TheVariants as fault
 abbrev pub plain_effect : declared.Effect → Effect
 plain_effect (effect.Write tag) = Write tag
 plain_effect (effect.Hear bytes) = Hear bytes.items
+plain_effect (effect.Close tag name text) = Close tag name.items text.items
 
 pub record PlainTurn : Type 0 where
   pub server : Server

@@ -1,9 +1,7 @@
 //! How a session is taken over: another server begins with the texts of this one.
 
-ghost use Rattle.std.specs.Prelude.{◌≡◌, ◌<◌, None, IfOk, OnOk, length, option_to_list};
-ghost use Rattle.std.specs.Str.{encode_utf8_all};
+ghost use Rattle.std.specs.Prelude.{◌≡◌, ◌<◌, None, OnOk, length, option_to_list};
 ghost use Rattle.sam_runes.specs.Checks.{first_of_checks};
-ghost use Rattle.sam_runes.specs.Reading.{AreRunes};
 ghost use Rattle.sam_runes.specs.Slots.{slot};
 ghost use Rattle.sam_runes.specs.Texts.{all_tags};
 ghost use Rattle.sam_endpoint.specs.HostEndpoints.{add_checks};
@@ -13,22 +11,11 @@ ghost use Rattle.sam_server.specs.declared.server.Stage.TheVariants.{Settled};
 
 use crate::fault::{CallFault, HeirFault};
 use crate::server::{DurableServer, Stage};
+use crate::utf8::utf8_of;
 use sam_endpoint::AddFault;
 use sam_link::Id;
-use sam_runes::{slice_facts, write_utf8};
 use sam_text::{File, Files};
-use std::alloc::{AllocError, Global};
-
-/// Returns the UTF-8 of the runes (RFC 3629). Its only error is out of memory.
-fn utf8_of(alloc: Global, runes: &[char]) -> Result<Vec<u8>, AllocError>
-    ensures bytes { IfOk result (λ bytes. bytes.items ≡ encode_utf8_all runes.now) }
-    ensures runes { AreRunes runes.now }
-{
-    slice_facts(runes);
-    let mut bytes = Vec::new(alloc);
-    write_utf8(&mut bytes, runes)?;
-    Ok(bytes)
-}
+use std::alloc::AllocError;
 
 impl DurableServer {
     /// Adds a file against which nothing stands. Its only error is out of memory.

@@ -13,6 +13,7 @@
 
 mod effect;
 mod fault;
+mod foreseeing;
 mod gate;
 mod giving;
 mod heir;
@@ -25,6 +26,7 @@ mod retaking;
 mod server;
 mod telling;
 mod turn;
+mod utf8;
 mod writing;
 
 pub use effect::Effect;

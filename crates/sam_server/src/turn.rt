@@ -1,15 +1,16 @@
 //! A turn of a server: what came is handed to the endpoint and to the program, and then all answers are put at once.
 
-ghost use Rattle.std.specs.Prelude.{◌≡◌, [], IfOk, drop, option_copied, option_map};
+ghost use Rattle.std.specs.Prelude.{◌≡◌, [], IfOk, option_copied, option_map};
 ghost use Rattle.sam_link.specs.Calls.{Does};
 ghost use Rattle.sam_link.specs.Calls.Call.{Acknowledge, Ask, Feed, PutNote};
 ghost use Rattle.sam_endpoint.specs.HostEndpoints.{Adds, Marks};
 ghost use Rattle.sam_server.specs.DurableServers.{mark_of};
 ghost use Rattle.sam_server.specs.HostLinks.{Answered};
-ghost use Rattle.sam_server.specs.Servers.{all_given, new_server, to_write};
+ghost use Rattle.sam_server.specs.Servers.{all_given, new_server};
 ghost use Rattle.sam_server.specs.Turns.{Brought, DroppedEffect, Fetched, Finished, Handed, HandedNext, Heard, Idled, IsHanded, IsHolding, Stepped, hosted, linked, plain_effect, told_of_bring, told_of_step};
 
 use crate::effect::Effect;
+use crate::foreseeing::foresee;
 use crate::gate::Mark;
 use crate::host_link::{HostLink, Next};
 use sam_endpoint::{AddFault, BringFault, EndpointFault, HostEndpoint, HostStep, HostStop};
@@ -103,18 +104,6 @@ fn set<T: Drop>(slot: &mut T, value: T)
     ensures { slot.new ≡ value }
 {
     *slot = value;
-}
-
-/// Makes an effect of what the endpoint was told to write, if it was.
-#[tactic(auto, using(crate::proofs::Turns::write_facts))]
-fn next_write(host: &mut HostEndpoint) -> Option<Effect>
-    ensures effect { option_map plain_effect result ≡ to_write host.old.writes }
-    ensures rest { host.new ≡ record host.old { writes = drop 1 host.old.writes } }
-{
-    match host.next_written() {
-        Some(tag) => Some(Effect::Write(tag)),
-        None => None,
-    }
 }
 
 /// Makes an effect of a message that the terminal's program said.
@@ -234,8 +223,8 @@ impl Turn {
         true
     }
 
-    /// Has the endpoint go on by one step while no effect waits, and returns whether it did something. Where it is told to write, an effect
-    /// waits.
+    /// Has the endpoint go on by one step while no effect waits, and returns whether it did something. Where that has the program do
+    /// something, an effect waits.
     fn step(&mut self) -> Result<bool, TurnFault>
         requires { self.old.held ≡ [] }
         ensures { Stepped self.old result self.new }
@@ -244,8 +233,12 @@ impl Turn {
             Some(_) => return Ok(false),
             None => {}
         }
+        let Ok(effect) = foresee(self.alloc, &self.host) else {
+            return Err(TurnFault::OutOfMemory);
+        };
         let did = told_of_step(self.host.step())?;
-        set(&mut self.effect, next_write(&mut self.host));
+        self.host.next_written();
+        set(&mut self.effect, effect);
         Ok(did)
     }
 

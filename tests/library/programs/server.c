@@ -14,6 +14,7 @@
 #define OPENED "\1\0\2\0\2\6\0\2\0\1"
 #define TYPED(rune) "\x08\0\7\0\1\0\0\0\0" rune
 #define WRITTEN "\x0d\0\2\0\1"
+#define CLOSED "\x0e\0\2\0\1"
 #define SESSION DATA "\0\x23" OPENED TYPED("b") WRITTEN TYPED("c")
 
 static sam_server server = SAM_SERVER_INIT;
@@ -44,6 +45,8 @@ static void no_server(sam_server *none)
     WANT(sam_server_take_out(none, 0, bytes, sizeof bytes, &len), SAM_NO_HANDLE);
     WANT(sam_server_next_effect(none, &effect), SAM_NO_HANDLE);
     WANT(sam_server_heard(none, bytes, sizeof bytes, &len), SAM_NO_HANDLE);
+    WANT(sam_server_closed_name(none, bytes, sizeof bytes, &len), SAM_NO_HANDLE);
+    WANT(sam_server_closed_text(none, bytes, sizeof bytes, &len), SAM_NO_HANDLE);
     WANT(sam_server_effect_done(none, 0), SAM_NO_HANDLE);
     WANT(sam_server_is_done(none, &is), SAM_NO_HANDLE);
     WANT(sam_server_tags(none, &len), SAM_NO_HANDLE);
@@ -210,6 +213,8 @@ static void writes(void)
     WANT(READ(sam_server_next_effect(&server, &effect)), SAM_OK);
     WANT(effect.len == 0 && effect.kind == SAM_EFFECT_WRITE && effect.tag == 1, 1);
     WANT(READ(sam_server_heard(&server, bytes, sizeof bytes, &len)), SAM_NONE);
+    WANT(READ(sam_server_closed_name(&server, bytes, sizeof bytes, &len)), SAM_NONE);
+    WANT(READ(sam_server_closed_text(&server, bytes, sizeof bytes, &len)), SAM_NONE);
     WANT(len == 99 && memcmp(bytes, "unused", 7) == 0, 1);
     WANT(READ(sam_server_saved_len(&server, 1, &runes)), SAM_OK);
     WANT(runes, 3);
@@ -235,6 +240,8 @@ static void hears(void)
     RECORD("\3" EIGHT("\1") NOTE "\0\3yes");
     WANT(READ(sam_server_next_effect(&server, &effect)), SAM_OK);
     WANT(effect.len == 3 && effect.kind == SAM_EFFECT_HEAR && effect.tag == 0, 1);
+    WANT(READ(sam_server_closed_name(&server, bytes, sizeof bytes, &len)), SAM_NONE);
+    WANT(READ(sam_server_closed_text(&server, bytes, sizeof bytes, &len)), SAM_NONE);
     WANT(READ(sam_server_heard(&server, bytes, 2, &len)), SAM_NO_ROOM);
     WANT(len == 99 && memcmp(bytes, "unused", 7) == 0, 1);
     WANT(READ(sam_server_heard(&server, bytes, 3, &len)), SAM_OK);
@@ -328,6 +335,62 @@ static void hands_on(void)
     WANT(is, 1);
 }
 
+/* A dirty file that closes has an effect with its name and its text, which is gone from the host. What was sent behind it waits. */
+static void closes(void)
+{
+    static const char closing[] = DATA "\0\x13" TYPED("d") CLOSED "\x14\0\1q";
+    sam_effect effect = {0, 0, 9};
+    uint8_t bytes[8] = "unused";
+    size_t len = 99;
+    uint32_t runes = 99;
+    bool is = true;
+    WANT(sam_server_new(&server, id), SAM_OK);
+    begins();
+    WANT(sam_server_receive(&server, 1, BYTES(DATA "\0\x0a" OPENED)), SAM_OK);
+    RECORD("\3" EIGHT("\1") DATA "\0\x0a" OPENED);
+    WANT(sam_server_receive(&server, 1, BYTES(closing)), SAM_OK);
+    WANT(READ(sam_server_has_file(&server, 1, &is)), SAM_OK);
+    WANT(is, 0);
+    WANT(READ(sam_server_next_effect(&server, &effect)), SAM_NONE);
+    WANT(READ(sam_server_closed_name(&server, bytes, sizeof bytes, &len)), SAM_NONE);
+    WANT(READ(sam_server_closed_text(&server, bytes, sizeof bytes, &len)), SAM_NONE);
+    RECORD("\3" EIGHT("\1") DATA "\0\x13" TYPED("d") CLOSED "\x14\0\1q");
+    WANT(READ(sam_server_next_effect(&server, &effect)), SAM_OK);
+    WANT(effect.len == 3 && effect.kind == SAM_EFFECT_CLOSE && effect.tag == 1, 1);
+    WANT(READ(sam_server_heard(&server, bytes, sizeof bytes, &len)), SAM_NONE);
+    WANT(READ(sam_server_closed_name(&server, bytes, 0, &len)), SAM_NO_ROOM);
+    WANT(READ(sam_server_closed_text(&server, bytes, 2, &len)), SAM_NO_ROOM);
+    WANT(len == 99 && memcmp(bytes, "unused", 7) == 0, 1);
+    WANT(READ(sam_server_closed_name(&server, bytes, sizeof bytes, &len)), SAM_OK);
+    WANT(len == 1 && memcmp(bytes, "nnused", 7) == 0, 1);
+    WANT(READ(sam_server_closed_text(&server, bytes, sizeof bytes, &len)), SAM_OK);
+    WANT(len == 3 && memcmp(bytes, "da\nsed", 7) == 0, 1);
+    WANT(READ(sam_server_snarf_len(&server, &runes)), SAM_OK);
+    WANT(runes, 0); /* "q" waits */
+    WANT(sam_server_effect_done(&server, 0), SAM_OK);
+    RECORD("\7" EIGHT("\0"));
+    WANT(READ(sam_server_next_effect(&server, &effect)), SAM_NONE);
+    WANT(READ(sam_server_snarf_len(&server, &runes)), SAM_OK);
+    WANT(runes, 1);
+}
+
+/* A clean file that closes has none. */
+static void closes_clean(void)
+{
+    sam_effect effect = {0, 0, 9};
+    uint16_t tag = 0;
+    bool is = true;
+    WANT(sam_server_add_file(&server, BYTES("m"), BYTES("x"), &tag), SAM_OK);
+    WANT(tag, 2);
+    RECORD("\1" EIGHT("\1") "mx");
+    WANT(sam_server_receive(&server, 1, BYTES(DATA "\0\x0a\6\0\2\0\2\x0e\0\2\0\2")), SAM_OK);
+    RECORD("\3" EIGHT("\1") DATA "\0\x0a\6\0\2\0\2\x0e\0\2\0\2");
+    WANT(READ(sam_server_has_file(&server, 2, &is)), SAM_OK);
+    WANT(is, 0);
+    WANT(READ(sam_server_next_effect(&server, &effect)), SAM_NONE);
+    WANT(sam_server_free(&server), SAM_OK);
+}
+
 /* Packets that are wrong end their connection, and the server goes on with the next; a wrong message stops it for good. */
 static void stops(void)
 {
@@ -410,6 +473,32 @@ static void recovers(void)
     no_recovery(&recovery);
 }
 
+/* After a crash the text of a file that was closed is there again, until the record of the effect's end is durable. */
+static void recovers_closed(void)
+{
+    static const char *const bodies[] = {"\1" EIGHT("\1") "na\n", "\2" HELLO("\1", "\1", "\0"),
+                                         "\3" EIGHT("\1") DATA "\0\x19" OPENED TYPED("b") CLOSED, "\7" EIGHT("\0")};
+    static const size_t lens[] = {12, 43, 9 + 3 + 25, 9};
+    sam_recovery recovery = SAM_RECOVERY_INIT;
+    sam_effect effect = {0, 0, 9};
+    uint8_t bytes[8];
+    size_t len = 0;
+    WANT(made_of(&recovery, bodies, lens, 3), SAM_OK);
+    WANT(sam_recovery_finish(&recovery, &server), SAM_OK);
+    WANT(sam_server_next_effect(&server, &effect), SAM_OK);
+    WANT(effect.len == 3 && effect.kind == SAM_EFFECT_CLOSE && effect.tag == 1, 1);
+    WANT(sam_server_closed_name(&server, bytes, sizeof bytes, &len), SAM_OK);
+    WANT(len == 1 && bytes[0] == 'n', 1);
+    WANT(sam_server_closed_text(&server, bytes, sizeof bytes, &len), SAM_OK);
+    WANT(len == 3 && memcmp(bytes, "ba\n", 3) == 0, 1);
+    WANT(sam_server_free(&server), SAM_OK);
+    WANT(made_of(&recovery, bodies, lens, 4), SAM_OK);
+    WANT(sam_recovery_finish(&recovery, &server), SAM_OK);
+    WANT(sam_server_next_effect(&server, &effect), SAM_NONE);
+    WANT(sam_server_closed_text(&server, bytes, sizeof bytes, &len), SAM_NONE);
+    WANT(sam_server_free(&server), SAM_OK);
+}
+
 int main(void)
 {
     sam_recovery none = {0};
@@ -431,7 +520,10 @@ int main(void)
     snarfs();
     stops();
     no_server(&server);
+    closes();
+    closes_clean();
     recovers();
+    recovers_closed();
     WANT((unsigned long)blocks, 0);
     puts("right");
     return 0;

@@ -302,6 +302,7 @@ pub type sam_effect_kind = u32;
 
 pub const SAM_EFFECT_WRITE: sam_effect_kind = 1;
 pub const SAM_EFFECT_HEAR: sam_effect_kind = 2;
+pub const SAM_EFFECT_CLOSE: sam_effect_kind = 3;
 
 /// The result of a step.
 #[derive(Clone, Copy, Debug, Default, PartialEq, Eq)]
@@ -1525,6 +1526,13 @@ extern "C" {
     /// Copies the message that is to be heard now, all of it or nothing, and hands out its length in bytes. A room of 4,096 bytes is always
     /// enough. Refused, in this order: SAM_NONE if sam_server_next_effect hands out no message; SAM_NO_ROOM if it doesn't fit.
     pub fn sam_server_heard(server: *mut sam_server, into: *mut u8, room: usize, len: *mut usize) -> sam_status;
+    /// Copies the name of the file that was closed, in UTF-8, all of it or nothing, and hands out its length in bytes. A room of
+    /// SAM_MOST_NAME_BYTES is always enough. Refused, in this order: SAM_NONE if sam_server_next_effect hands out no file that was closed;
+    /// SAM_NO_ROOM if it doesn't fit.
+    pub fn sam_server_closed_name(server: *mut sam_server, into: *mut u8, room: usize, len: *mut usize) -> sam_status;
+    /// Copies the text that the file had as it was closed, in UTF-8, all of it or nothing, and hands out its length in bytes. Refused as
+    /// sam_server_closed_name is.
+    pub fn sam_server_closed_text(server: *mut sam_server, into: *mut u8, room: usize, len: *mut usize) -> sam_status;
     /// Ends the effect, which is done. `ending` is a number of the program's own for how it ended, which stands in the record. Its own
     /// refusal: SAM_NONE if sam_server_next_effect hands out none.
     pub fn sam_server_effect_done(server: *mut sam_server, ending: u64) -> sam_status;

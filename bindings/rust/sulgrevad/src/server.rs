@@ -11,6 +11,16 @@ pub enum Effect {
     Write(u16),
     /// The terminal's program said this message, a note of the link.
     Hear(Vec<u8>),
+    /// The terminal closed a file that was dirty. No file has its tag any more, so this has what it held last, for a program that keeps a
+    /// copy.
+    Close {
+        /// The tag that it had. No other file gets it.
+        tag: u16,
+        /// Its name.
+        name: String,
+        /// Its text.
+        text: String,
+    },
 }
 
 /// A host with its end of a link, which outlives a crash. It makes a record of each thing that it takes, and nothing that a record decides
@@ -149,12 +159,28 @@ impl DurableServer {
     /// record of its end is durable.
     pub fn next_effect(&self) -> Option<Effect> {
         let effect: sam_effect = told(|effect| unsafe { sys::sam_server_next_effect(self.at(), effect) })?;
-        if effect.kind == sys::SAM_EFFECT_WRITE {
-            return Some(Effect::Write(effect.tag));
+        match effect.kind {
+            sys::SAM_EFFECT_WRITE => Some(Effect::Write(effect.tag)),
+            sys::SAM_EFFECT_HEAR => self.heard(effect.len).map(Effect::Hear),
+            _ => self.closed(effect.tag, effect.len),
         }
-        let mut message = vec![0; effect.len];
-        told(|len| unsafe { sys::sam_server_heard(self.at(), message.as_mut_ptr(), message.len(), len) })
-            .map(|_: usize| Effect::Hear(message))
+    }
+
+    /// Returns the message that is to be heard, of so many bytes.
+    fn heard(&self, len: usize) -> Option<Vec<u8>> {
+        let mut message = vec![0; len];
+        told(|len| unsafe { sys::sam_server_heard(self.at(), message.as_mut_ptr(), message.len(), len) }).map(|_: usize| message)
+    }
+
+    /// Returns the file that was closed, with a text of so many bytes.
+    fn closed(&self, tag: u16, len: usize) -> Option<Effect> {
+        let mut text = vec![0; len];
+        let _: usize = told(|len| unsafe { sys::sam_server_closed_text(self.at(), text.as_mut_ptr(), text.len(), len) })?;
+        Some(Effect::Close {
+            tag,
+            name: short_text(|into, len| unsafe { sys::sam_server_closed_name(self.at(), into.as_mut_ptr(), into.len(), len) })?,
+            text: String::from_utf8(text).expect("the library writes UTF-8"),
+        })
     }
 
     /// Ends the effect, which is done. `ending` is a number of the program's own for how it ended, which stands in the record. Its own

@@ -116,6 +116,41 @@ fn a_server_goes_on_after_a_crash() {
 }
 
 #[test]
+fn a_file_that_closes_dirty_is_told_of() {
+    let (mut journal, mut term) = (Vec::new(), Terminal::new().unwrap());
+    let mut server = DurableServer::new(ID).unwrap();
+    let mut link = Link::new(Role::Terminal, ID).unwrap();
+    server.add_file("notes", "hello\n").unwrap();
+    server.add_file("clean", "x").unwrap();
+    let attempt = connect(&mut server, &mut link, &mut journal);
+    term.offer_version(2).unwrap();
+    for tag in [1, 2] {
+        term.open(tag).unwrap();
+        carry(&mut server, &mut link, &mut term, attempt, &mut journal);
+    }
+    term.type_(1, "b").unwrap();
+    term.close(1).unwrap();
+    carry(&mut server, &mut link, &mut term, attempt, &mut journal);
+    let closed = Effect::Close {
+        tag: 1,
+        name: "notes".to_string(),
+        text: "bhello\n".to_string(),
+    };
+    assert_eq!((server.next_effect(), server.has_file(1)), (Some(closed.clone()), false));
+    drop(server); // a crash
+
+    let mut server = recover(ID, &journal).unwrap();
+    assert_eq!((server.next_effect(), server.has_file(1)), (Some(closed), false));
+    link.broken(attempt);
+    let attempt = connect(&mut server, &mut link, &mut journal);
+    server.effect_done(0).unwrap();
+    carry(&mut server, &mut link, &mut term, attempt, &mut journal);
+    term.close(2).unwrap();
+    carry(&mut server, &mut link, &mut term, attempt, &mut journal);
+    assert_eq!((server.next_effect(), server.has_file(2)), (None, false));
+}
+
+#[test]
 fn records_that_lead_nowhere_are_refused() {
     let mut journal = Vec::new();
     let mut server = DurableServer::new(ID).unwrap();

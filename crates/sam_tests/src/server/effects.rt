@@ -1,6 +1,6 @@
-//! A server is asked to write a file, once a crash can't forget why.
+//! A server is asked to write a file, and tells of one that was closed, once a crash can't forget why.
 use crate::server::piece::{
-    BEFORE_WRITTEN, BEFORE_WRITTEN_AGAIN, ID, STREAM, WELCOME, begin, goes_out,
+    BEFORE_WRITTEN, BEFORE_WRITTEN_AGAIN, CLOSING, ID, STREAM, WELCOME, begin, begin_with, goes_out,
 };
 use sam_server::{DurableServer, Effect};
 use sam_test_support::lent;
@@ -57,6 +57,41 @@ fn answer_comes_behind(server: &mut DurableServer) -> bool {
     }
     server.durable(1);
     goes_out(server, 1, &[], &STREAM[BEFORE_WRITTEN_AGAIN..])
+}
+
+/// Returns whether the server tells of the closed file, with what it held.
+fn tells_of_closed(server: &DurableServer) -> bool {
+    match server.next_effect() {
+        Some(Effect::Close { tag, name, text }) => {
+            *tag == 1 && name.as_slice() == b"n".as_slice() && text.as_slice() == b"ba\n".as_slice()
+        }
+        _ => false,
+    }
+}
+
+/// Returns whether the snarf buffer has so many runes, which come behind the close.
+fn has_snarfed(server: &DurableServer, count: usize) -> bool {
+    server.host().files().snarf_text().len() == count
+}
+
+fn closed_is_told(server: &mut DurableServer) -> bool {
+    if !begin_with(server, &CLOSING) || !asks_nothing(server) {
+        return false;
+    }
+    server.durable(3);
+    if !tells_of_closed(server) || !has_snarfed(server, 0) {
+        return false;
+    }
+    server.effect_done(0).is_ok() && asks_nothing(server) && has_snarfed(server, 1)
+}
+
+#[test]
+fn closed_file_is_told_of(rt: HostRuntime) {
+    let passes = match DurableServer::new(rt.alloc(), ID) {
+        Ok(server) => lent(server, |server| closed_is_told(server)),
+        Err(_) => false,
+    };
+    assert!(rt; passes);
 }
 
 #[test]

@@ -12,6 +12,12 @@ pub(crate) const PIECE: [u8; 43] = [
     0x01, 0x00, 0x00, 0x00, 0x00, 0x63, 0x0d, 0x00, 0x02, 0x00, 0x01,
 ];
 
+/// Version 2, file 1 is opened, a rune is typed, the file is closed, and another rune goes into the snarf buffer.
+pub(crate) const CLOSING: [u8; 32] = [
+    0x01, 0x00, 0x1d, 0x01, 0x00, 0x02, 0x00, 0x02, 0x06, 0x00, 0x02, 0x00, 0x01, 0x08, 0x00, 0x07,
+    0x00, 0x01, 0x00, 0x00, 0x00, 0x00, 0x62, 0x0e, 0x00, 0x02, 0x00, 0x01, 0x14, 0x00, 0x01, 0x71,
+];
+
 /// The welcome to connection 1.
 pub(crate) const WELCOME: [u8; 42] = [
     0x89, 0x73, 0x61, 0x6d, 0x6c, 0x69, 0x6e, 0x6b, 0x01, 0x04, 0x00, 0x00, 0x00, 0x00, 0x00, 0x00,
@@ -56,10 +62,15 @@ pub(crate) fn add_file(server: &mut DurableServer) -> bool {
 }
 
 /// Adds the file, takes a connection, and the piece that it brings: three records. Returns whether all was taken.
-pub(crate) fn begin(server: &mut DurableServer) -> bool {
+pub(crate) fn begin_with(server: &mut DurableServer, piece: &[u8]) -> bool {
     add_file(server)
         && server.accept(hello(What::Begin, 1, 0)).is_ok()
-        && server.receive(1, &PIECE).is_ok()
+        && server.receive(1, piece).is_ok()
+}
+
+/// Begins so with the piece that writes twice.
+pub(crate) fn begin(server: &mut DurableServer) -> bool {
+    begin_with(server, &PIECE)
 }
 
 /// Returns whether these bytes go out on the connection, and no others: first the one, then the other.
