@@ -1,5 +1,5 @@
 -- What the calls of a client do. Times are in milliseconds.
-use Rattle.std.specs.Prelude.{◌≡◌, ◌⊎◌, ◌↔◌, ◌*◌, ◌==◌, ℕ, Bool, true, false, nat_le, nat_lt, IsTrue, List, [], ◌∷◌, ◌++◌, drop, length, Option, Some, None, Result, Ok, Err}
+use Rattle.std.specs.Prelude.{◌≡◌, ◌⊎◌, ◌↔◌, ◌*◌, ◌-◌, ◌^◌, ◌==◌, ℕ, Bool, true, false, nat_le, nat_lt, IsTrue, List, [], ◌∷◌, ◌++◌, drop, length, Option, Some, None, Result, Ok, Err}
 use Rattle.sam_runes.specs.Texts.{is_empty}
 use Rattle.sam_link.specs.Sessions.{IsId}
 use Rattle.sam_link.specs.declared.fault.CallFault.{CallFault}
@@ -29,9 +29,11 @@ use Rattle.sam_client.specs.Clients.Act.{OfLine, Replace, Request, TakeBack}
 use Rattle.sam_client.specs.Delivery.{HasAll}
 use Rattle.sam_client.specs.Going.{GoesOn, IfIdle, Rests, most_moves}
 use Rattle.sam_client.specs.Notes.{PutsNote}
+use Rattle.sam_client.specs.Numbers.{after_asking, after_telling, no_numbers, number_of, told_number}
 use Rattle.sam_client.specs.declared.event.Event.{Event}
 use Rattle.sam_client.specs.declared.event.Event.TheVariants as tell
 use Rattle.sam_client.specs.declared.fault.GoOnFault.{GoOnFault}
+use Rattle.sam_client.specs.declared.numbers.RequestNumbers.{RequestNumbers}
 use Rattle.sam_client.specs.declared.replacement.Replaced.{Replaced}
 use Rattle.sam_client.specs.declared.replacement.Replacement.{Replacement}
 use Rattle.sam_c.specs.Calls.{AtHandle}
@@ -42,7 +44,7 @@ use Rattle.sam_c.specs.LinkStatus.{call_status, note_status, out_status, put_sta
 use Rattle.sam_c.specs.Links.{handed_or, id_bytes}
 use Rattle.sam_c.specs.OverlayStatus.{replace_status}
 use Rattle.sam_c.specs.Overlays.{Handed, HandsBack, NextWaiting, WithText, event_of, told_splice}
-use Rattle.sam_c.specs.Status.{ok, no_memory, is_made, no_handle, no_room, not_text, nothing, waiting}
+use Rattle.sam_c.specs.Status.{ok, no_memory, is_made, no_handle, no_room, not_text, count_full, nothing, waiting}
 use Rattle.sam_c.specs.Steps.{did_nothing, did_of_term}
 use Rattle.sam_c.specs.declared.client_end.ClientEnd.{ClientEnd}
 use Rattle.sam_c.specs.declared.overlay_calls.SamSplice.{SamSplice}
@@ -65,16 +67,24 @@ line_of e = e.client.line
 abbrev pub MakesClient : List ℕ → Bool → ℕ → ℕ → Option ClientEnd → Type 0
 MakesClient bytes take_over now status after =
     ((id : Id) × IsId id × (id_bytes id ≡ bytes) × (status ≡ ok)
-    × (after ≡ Some (record { client = new_client id take_over now; splices = [] })))
+    × (after ≡ Some (record { client = new_client id take_over now; splices = []; numbers = no_numbers })))
     ⊎ ((status ≡ no_memory) × (after ≡ None))
 
 abbrev pub ClientMade : Option ClientEnd → List ℕ → Bool → ℕ → ℕ → Option ClientEnd → Type 0
 ClientMade None bytes take_over now status after = MakesClient bytes take_over now status after
 ClientMade (Some e) bytes take_over now status after = (status ≡ is_made) × (after ≡ Some e)
 
--- this act leads there, and the splices stay
+-- what stands beside the client stays
+abbrev pub KeepsBeside : ClientEnd → ClientEnd → Type 0
+KeepsBeside e g = (g.splices ≡ e.splices) × (g.numbers ≡ e.numbers)
+
+-- so many requests wait
+abbrev pub requests_of : ClientEnd → ℕ
+requests_of e = length e.client.ordered.queue
+
+-- this act leads there, and what stands beside the client stays
 abbrev pub ActsOne : ClientEnd → Act → ClientEnd → Type 0
-ActsOne e act g = Does e.client act g.client × (g.splices ≡ e.splices)
+ActsOne e act g = Does e.client act g.client × KeepsBeside e g
 
 -- ## Connections
 
@@ -122,17 +132,25 @@ abbrev pub heard : ℕ → SamDid → Heard
 heard kind did = record { kind = kind; did = did }
 
 -- what was done, if the event says that
-abbrev pub event_did : Event → SamDid
-event_did tell.Idle = did_nothing 0
-event_did tell.Busy = did_nothing 0
-event_did (tell.Stepped x) = did_of_term x.step
-event_did (tell.Refused number why) = did_of_term (step.Refused number why)
-event_did tell.Note = did_nothing 0
+abbrev pub did_of_event : Event → SamDid
+did_of_event tell.Idle = did_nothing 0
+did_of_event tell.Busy = did_nothing 0
+did_of_event (tell.Stepped x) = did_of_term x.step
+did_of_event (tell.Refused number why) = did_of_term (step.Refused number why)
+did_of_event tell.Note = did_nothing 0
+
+-- with the number of the request that did it
+abbrev pub event_did : ℕ → Event → SamDid
+event_did request event = record (did_of_event event) { request = request }
 
 -- what is told, or what stood there before
-abbrev pub heard_or : Heard → Result Event GoOnFault → Heard
-heard_or before (Ok event) = heard (event_number event) (event_did event)
-heard_or before (Err why) = before
+abbrev pub heard_or : Heard → RequestNumbers → ℕ → Result Event GoOnFault → Heard
+heard_or before n requests (Ok event) = heard (event_number event) (event_did (told_number n requests event) event)
+heard_or before n requests (Err why) = before
+
+abbrev pub numbers_or : RequestNumbers → ℕ → Result Event GoOnFault → RequestNumbers
+numbers_or n requests (Ok event) = after_telling n requests event
+numbers_or n requests (Err why) = n
 
 -- a step brings its splices
 abbrev pub splices_after : List Splice → Event → List Splice
@@ -151,7 +169,8 @@ abbrev pub GoesOnOne : ClientEnd → Bool → ℕ → Heard → ℕ → Heard �
 GoesOnOne e false now old status new g = (status ≡ waiting) × (new ≡ old) × (g ≡ e)
 GoesOnOne e true now old status new g =
     (result : Result Event GoOnFault) × GoesOn now most_moves e.client result g.client × IfIdle result (Rests g.client)
-    × (g.splices ≡ splices_or e.splices result) × (status ≡ go_on_status result) × (new ≡ heard_or old result)
+    × (g.splices ≡ splices_or e.splices result) × (g.numbers ≡ numbers_or e.numbers (requests_of g) result)
+    × (status ≡ go_on_status result) × (new ≡ heard_or old e.numbers (requests_of g) result)
 
 abbrev pub ClientWentOn : Option ClientEnd → ℕ → Heard → ℕ → Heard → Option ClientEnd → Type 0
 ClientWentOn None now old status new after = (status ≡ no_handle) × (new ≡ old) × (after ≡ None)
@@ -182,7 +201,7 @@ ClientNote (Some e) before after old status new =
 abbrev pub ClientNotePut : Option ClientEnd → List ℕ → ℕ → ℕ → Option ClientEnd → Type 0
 ClientNotePut before bytes now status after =
     AtHandle before status after
-    (λ e status g. (result : Result (Unit {0}) NoteFault) × PutsNote e.client bytes now result g.client × (g.splices ≡ e.splices)
+    (λ e status g. (result : Result (Unit {0}) NoteFault) × PutsNote e.client bytes now result g.client × KeepsBeside e g
     × (status ≡ note_status result))
 
 -- ## What the user does
@@ -203,7 +222,7 @@ ClientReplaced before tag range text status after =
     AtHandle before status after
     (λ e status g. WithText e text (λ runes status g. ReplacesOne e (is_empty e.splices) tag range runes status g) status g)
 
--- a client, and how many replacements were made
+-- a client, and a number that is handed out: how many replacements were made, say
 abbrev pub Counted : Type 0
 Counted = ClientEnd × ℕ
 
@@ -211,7 +230,7 @@ Counted = ClientEnd × ℕ
 abbrev pub ReplacesAll : ClientEnd → Bool → ℕ → List Replacement → List ℕ → ℕ → ℕ → Counted → Type 0
 ReplacesAll e false tag xs runes before status g = (status ≡ waiting) × (g ≡ (e, before))
 ReplacesAll e true tag xs runes before status g =
-    (x : Replaced) × ReplacesEach e.client tag xs runes x g.0.client × (g.0.splices ≡ e.splices)
+    (x : Replaced) × ReplacesEach e.client tag xs runes x g.0.client × KeepsBeside e g.0
     × (status ≡ replace_status (term_of g.0).stop x.result) × (g.1 ≡ x.made)
 
 -- the text has just the runes that they take, or none is made
@@ -230,18 +249,33 @@ ClientReplacedEach (Some e) tag xs text old status new after =
     (g : ClientEnd) × (after ≡ Some g)
     × WithText (e, 0) text (λ runes status g. ReplacesJust e (count_in xs == length runes) tag xs runes 0 status g) status (g, new)
 
--- the request is taken; if there is none, nothing is done
-abbrev pub AsksOne : ClientEnd → Option UserEvent → ℕ → ClientEnd → Type 0
-AsksOne e None status g = (status ≡ nothing) × (g ≡ e)
-AsksOne e (Some event) status g =
-    (result : Result Asked AskFault) × ActsOne e (Request event result) g × (status ≡ ask_status result)
+-- a request that was taken has its number
+abbrev pub Numbers : RequestNumbers → ℕ → Result Asked AskFault → ℕ → RequestNumbers → ℕ → Type 0
+Numbers n requests (Ok x) before m number = (m ≡ after_asking n x) × (number ≡ number_of n requests x)
+Numbers n requests (Err why) before m number = (m ≡ n) × (number ≡ before)
 
-abbrev pub ClientAskedOne : Option ClientEnd → Option UserEvent → ℕ → Option ClientEnd → Type 0
-ClientAskedOne before event status after = AtHandle before status after (λ e status g. AsksOne e event status g)
+-- the request is taken, and numbered; none is once there are no more numbers
+abbrev pub Asks : ClientEnd → Bool → UserEvent → ℕ → ℕ → Counted → Type 0
+Asks e true event before status g = (status ≡ count_full) × (g ≡ (e, before))
+Asks e false event before status g =
+    (result : Result Asked AskFault) × Does e.client (Request event result) g.0.client × (g.0.splices ≡ e.splices)
+    × Numbers e.numbers (requests_of g.0) result before g.0.numbers g.1 × (status ≡ ask_status result)
 
-abbrev pub ClientAsked : Option ClientEnd → SamEvent → List ℕ → ℕ → Option ClientEnd → Type 0
-ClientAsked before x text status after =
-    AtHandle before status after (λ e status g. WithText e text (λ runes status g. AsksOne e (event_of x runes) status g) status g)
+-- if there is none, nothing is done
+abbrev pub AsksOne : ClientEnd → Option UserEvent → ℕ → ℕ → Counted → Type 0
+AsksOne e None before status g = (status ≡ nothing) × (g ≡ (e, before))
+AsksOne e (Some event) before status g = Asks e (e.numbers.taken == 2 ^ 64 - 1) event before status g
+
+abbrev pub ClientAskedOne : Option ClientEnd → Option UserEvent → ℕ → ℕ → ℕ → Option ClientEnd → Type 0
+ClientAskedOne None event old status new after = (status ≡ no_handle) × (new ≡ old) × (after ≡ None)
+ClientAskedOne (Some e) event old status new after =
+    (g : ClientEnd) × (after ≡ Some g) × AsksOne e event old status (g, new)
+
+abbrev pub ClientAsked : Option ClientEnd → SamEvent → List ℕ → ℕ → ℕ → ℕ → Option ClientEnd → Type 0
+ClientAsked None x text old status new after = (status ≡ no_handle) × (new ≡ old) × (after ≡ None)
+ClientAsked (Some e) x text old status new after =
+    (g : ClientEnd) × (after ≡ Some g)
+    × WithText (e, old) text (λ runes status g. AsksOne e (event_of x runes) old status g) status (g, new)
 
 -- runes for which the host left no room
 abbrev pub TakesBack : ClientEnd → ℕ → Handed → ℕ → Handed → ClientEnd → Type 0

@@ -13,7 +13,7 @@ use crate::line_status::{receive_status, tick_number};
 use crate::link_calls::SamLinkId;
 use crate::link_status::{call_fault, out_fault, put_status};
 use crate::status::{MADE, NO_HANDLE, NO_MEMORY, OK};
-use sam_client::Client;
+use sam_client::{Client, RequestNumbers};
 use sam_shown::Splices;
 use std::alloc::Global;
 
@@ -35,6 +35,7 @@ pub extern "C" fn sam_client_new(
     let made = ClientEnd {
         client: Client::new(alloc, id.to_id(), take_over, now),
         splices: Splices::none(),
+        numbers: RequestNumbers::new(),
     };
     let Ok(end) = Box::new(alloc, made) else {
         return NO_MEMORY;

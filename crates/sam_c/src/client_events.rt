@@ -2,11 +2,11 @@
 //! of `sam_status`; after `SAM_NO_HANDLE`, `SAM_NONE` and each refusal what its other arguments lead to is as it was. `now` is the time, in
 //! milliseconds.
 
-ghost use Rattle.std.specs.Prelude.{◌≡◌, ◌≤◌, ◌*◌, IfSome, IsTrue, length, nat_lt};
+ghost use Rattle.std.specs.Prelude.{◌≡◌, ◌≤◌, ◌*◌, ◌-◌, ◌^◌, ◌==◌, IfSome, IsTrue, length, nat_lt};
 ghost use Rattle.sam_overlay.specs.Calls.{waiting_at};
 ghost use Rattle.sam_overlay.specs.Overlays.{is_request};
 ghost use Rattle.sam_c.specs.ClientStatus.{event_number};
-ghost use Rattle.sam_c.specs.Clients.{ClientAsked, ClientAskedOne, ClientDropped, ClientNextSplice, ClientNote, ClientNotePut};
+ghost use Rattle.sam_c.specs.Clients.{Asks, ClientAsked, ClientAskedOne, ClientDropped, ClientNextSplice, ClientNote, ClientNotePut};
 ghost use Rattle.sam_c.specs.Clients.{ClientReplaced, ClientReplacedBy, ClientReplacedEach, ClientReplacedEachBy};
 ghost use Rattle.sam_c.specs.Clients.{ClientWentOn, CopiesNote, TakesBack};
 ghost use Rattle.sam_c.specs.Clients.{event_did, heard, overlay_of, splices_after};
@@ -20,7 +20,7 @@ use crate::overlay_calls::{SamSplice, told_splice};
 use crate::overlay_drops::hand_back;
 use crate::overlay_events::{SamEvent, event_of};
 use crate::overlay_status::replace_fault;
-use crate::status::{NO_HANDLE, NO_ROOM, NONE, NOT_TEXT, OK, WAITING};
+use crate::status::{COUNT_FULL, NO_HANDLE, NO_ROOM, NONE, NOT_TEXT, OK, WAITING};
 use crate::steps::{IDLE, SamDid, did_nothing, did_of_term};
 use crate::term_events::read_status;
 use sam_client::{Event, Replacement, take_together};
@@ -30,10 +30,10 @@ use sam_shown::Splices;
 use sam_term::UserEvent;
 use std::alloc::Global;
 
-/// Hands out what is told: its number, what a step did, and the splices of that step.
-fn tell_event(event: Event, kind: &mut u32, did: &mut SamDid, splices: &mut Splices)
+/// Hands out what is told: its number, what a step did, the number of the request that did it, and the splices of that step.
+fn tell_event(event: Event, request: u64, kind: &mut u32, did: &mut SamDid, splices: &mut Splices)
     ensures kind { kind.new ≡ event_number event }
-    ensures did { did.new ≡ event_did event }
+    ensures did { did.new ≡ event_did request event }
     ensures splices { splices.new ≡ splices_after splices.old event }
 {
     *kind = event_number(&event);
@@ -46,6 +46,7 @@ fn tell_event(event: Event, kind: &mut u32, did: &mut SamDid, splices: &mut Spli
             *splices = Splices::of(step.tag, step.told);
         }
     }
+    did.request = request;
 }
 
 /// Goes on until there is something to tell, and hands out what: a number of `sam_client_event`, and what was done, if it says that.
@@ -68,7 +69,9 @@ pub extern "C" fn sam_client_next_event(
         if end.splices.is_empty() {
             match end.client.go_on(now) {
                 Ok(event) => {
-                    tell_event(event, kind, did, &mut end.splices);
+                    let waiting = end.client.requests();
+                    let request = end.numbers.tell(&event, waiting);
+                    tell_event(event, request, kind, did, &mut end.splices);
                     OK
                 }
                 Err(why) => go_on_fault(why),
@@ -245,39 +248,58 @@ pub extern "C" fn sam_client_replace_each(
     }
 }
 
+/// Has a client take the request, and hands out its number.
+fn ask(end: &mut ClientEnd, event: UserEvent, number: &mut u64) -> u32
+    requires { IsTrue (is_request event) }
+    ensures { Asks end.old (end.old.numbers.taken == 2 ^ 64 - 1) event number.old result (end.new, number.new) }
+{
+    if end.numbers.is_full() {
+        return COUNT_FULL;
+    }
+    let came = end.client.ask(event);
+    if let Ok(asked) = came {
+        let waiting = end.client.requests();
+        *number = end.numbers.number(asked, waiting);
+    }
+    ask_status(came)
+}
+
 /// Has the client that a handle holds take the request, and returns what came of it: `NONE` if there is none.
-fn ask_one(client: &mut SamClient, event: Option<UserEvent>, alloc: Global) -> u32
+fn ask_one(client: &mut SamClient, event: Option<UserEvent>, number: &mut u64, alloc: Global) -> u32
     requires { IfSome event (λ x. IsTrue (is_request x)) }
-    ensures { ClientAskedOne client.old.held.end event result client.new.held.end }
+    ensures { ClientAskedOne client.old.held.end event number.old result number.new client.new.held.end }
 {
     with_end!(client alloc mut end {
         match event {
-            Some(event) => ask_status(end.client.ask(event)),
+            Some(event) => ask(&mut end, event, number),
             None => NONE,
         }
     })
 }
 
 /// Takes an event of the user that is no edit, or one of the command file, in behind the others. It acts as the client goes on, and finds
-/// what is shown now.
+/// what is shown now. Hands out the number of the request, counted from 1 over those that were taken: `sam_client_next_event` tells once
+/// that it acted, or was refused. A write that shares one that waits has the number of that.
 ///
 /// Returns `SAM_OK`, or in this order `SAM_NO_HANDLE`; `SAM_NOT_TEXT` if the text is not UTF-8, and `SAM_NO_MEMORY` if there is no memory
-/// for its runes; `SAM_NONE` if no event has this number; what [`Client::ask`](sam_client::Client::ask) answers, in its order:
-/// `SAM_WAITING`, `SAM_TOO_MANY`, `SAM_COUNT_FULL`, `SAM_NO_MEMORY`. After an error the client is as it was.
+/// for its runes; `SAM_NONE` if no event has this number; `SAM_COUNT_FULL` if 2^64-1 requests were taken; what
+/// [`Client::ask`](sam_client::Client::ask) answers, in its order: `SAM_WAITING`, `SAM_TOO_MANY`, `SAM_COUNT_FULL`, `SAM_NO_MEMORY`. After
+/// an error the client and the number are as they were.
 #[unsafe(no_mangle)]
 pub extern "C" fn sam_client_ask(
     client: &mut SamClient,
     event: &SamEvent,
     text: &[u8],
+    number: &mut u64,
     alloc: Global,
 ) -> u32
-    ensures { ClientAsked client.old.held.end event.now text.now result client.new.held.end }
+    ensures { ClientAsked client.old.held.end event.now text.now number.old result number.new client.new.held.end }
 {
     if !client.is_made() {
         return NO_HANDLE;
     }
     match read_utf8(alloc, text) {
-        Ok(runes) => ask_one(client, event_of(event, runes), alloc),
+        Ok(runes) => ask_one(client, event_of(event, runes), number, alloc),
         Err(why) => read_status(why),
     }
 }

@@ -46,6 +46,8 @@ const DATA: u8 = 73;
 pub struct SamDid {
     /// The number of the event, counted from 1.
     pub event: u64,
+    /// The number of the request that acted or was refused, counted from 1 over the requests of a client.
+    pub request: u64,
     /// How many messages the host took or answered.
     pub count: usize,
     /// A number of `sam_step`.
@@ -72,6 +74,7 @@ pub(crate) fn did_nothing(step: u32) -> SamDid
 {
     SamDid {
         event: 0,
+        request: 0,
         count: 0,
         step,
         why: 0,

@@ -5,3 +5,4 @@ pub mod Delivery
 pub mod Notes
 pub mod Going
 pub mod Batches
+pub mod Numbers

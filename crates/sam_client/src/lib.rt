@@ -6,6 +6,7 @@ mod client;
 mod event;
 mod fault;
 mod going;
+mod numbers;
 mod packet;
 mod replacement;
 
@@ -13,4 +14,5 @@ pub use client::Client;
 pub use event::Event;
 pub use fault::GoOnFault;
 pub use going::MOST_MOVES;
+pub use numbers::RequestNumbers;
 pub use replacement::{Replaced, Replacement, take_together};
