@@ -364,6 +364,7 @@ enum sam_kind {
 /* The result of a step. A field that is not of its step is 0, and so is the tag if the message, frame or event names no file. */
 struct sam_did {
     uint64_t event; /* the event's number, counted from 1 over all event calls that were taken */
+    uint64_t request; /* of a client: the request's number, as sam_client_ask handed it out; 0 if no request did this */
     size_t count;   /* the number of messages that the host took: 1 for SAM_STEP_ANSWERED, 1 or more for SAM_STEP_EDITED */
     sam_step step;
     sam_status why; /* the reason why the event was refused: SAM_REFUSAL.. */
@@ -1472,7 +1473,7 @@ enum sam_client_event {
     SAM_CLIENT_IDLE = 0,    /* nothing moves until the host or the user does something, or the time comes */
     SAM_CLIENT_BUSY = 1,    /* 1,000 things moved that are not told, and more may: call again */
     SAM_CLIENT_STEPPED = 2, /* a frame was received or an event acted, as sam_did says; the splices are to be taken */
-    SAM_CLIENT_REFUSED = 3, /* a request was refused: sam_did has its number and why */
+    SAM_CLIENT_REFUSED = 3, /* a request, or an edit, was refused: sam_did has its number and why */
     SAM_CLIENT_NOTE = 4,    /* a note came: sam_client_note copies it; all frames before it are received */
 
     SAM_CLIENT_WIDTH = 0x7FFFFFFF /* never handed out: it keeps the type at 32 bits under any compiler's options */
@@ -1558,10 +1559,12 @@ SAM_MUST_USE sam_status sam_client_acknowledge(sam_client *client);
 /* Goes on until there is something to tell, and hands out what (enum sam_client_event). Bytes of the host are received, requests and edits
  * that wait act once they can, and all that is composed goes into the line. Call it after each call that brought something, until it hands
  * out SAM_CLIENT_IDLE, and take all splices before each call. `did` is as sam_overlay_step hands it out at SAM_CLIENT_STEPPED, and has
- * `event` and `why` alone at SAM_CLIENT_REFUSED: which event it was, counted from 1 over all events that acted or were refused, edits that
- * were put among them, and SAM_REFUSAL... Else its fields are 0. Refused, in this order, and nothing is handed out then: SAM_WAITING if
- * splices are left, and all is as it was. Else some of what waited may be done, and nothing is lost: why the terminal has stopped, at this
- * call or before, SAM_STREAM.. or SAM_TERM_REFUSED..; SAM_COUNT_FULL; SAM_UNFINISHED if memory is short: call it again later. */
+ * `event`, `request` and `why` alone at SAM_CLIENT_REFUSED: which event it was, counted from 1 over all events that acted or were refused,
+ * edits that were put among them, and SAM_REFUSAL... If a request acted or was refused, `request` is its number, as sam_client_ask handed
+ * it out: each is told once, in their order, over all connections. Else the fields are 0. Refused, in this order, and nothing is handed
+ * out then: SAM_WAITING if splices are left, and all is as it was. Else some of what waited may be done, and nothing is lost: why the
+ * terminal has stopped, at this call or before, SAM_STREAM.. or SAM_TERM_REFUSED..; SAM_COUNT_FULL; SAM_UNFINISHED if memory is short:
+ * call it again later. */
 SAM_MUST_USE sam_status sam_client_next_event(sam_client *client, uint64_t now, sam_client_event *kind, sam_did *did);
 
 /* Goes on as sam_client_next_event does, and over each step that is an edit: of the host's (Hgrowdata, Hcut), of runes that are loaded
@@ -1607,12 +1610,13 @@ SAM_MUST_USE sam_status sam_client_replace_each(sam_client *client, uint16_t tag
  * edits: it acts as the client goes on, once all edits before it are put, and finds the text that is shown now, with the host's changes
  * since. A place that it names is one of that text, and moves with it as the host changes the text: what comes in at the place itself
  * stands behind it, and a range of which all goes is empty there. A place past the end of the text doesn't move: it is one of a text to
- * come, as of a file that is asked to be opened just before. Requests act in the order in which they were asked for; a write that would
- * find the same text as one that waits is that one. Refused, in this order, and the client is then as it was: SAM_NOT_TEXT if the text is
- * not UTF-8; SAM_NO_MEMORY if there is no memory for its runes; SAM_NONE if no event has this kind; SAM_WAITING while an edit was put that
- * has not acted: go on first; SAM_TOO_MANY if 1,000 requests wait; SAM_COUNT_FULL if 2^32-1 were taken while edits or requests waited;
- * SAM_NO_MEMORY. */
-SAM_MUST_USE sam_status sam_client_ask(sam_client *client, const sam_event *event, const uint8_t *text, size_t len);
+ * come, as of a file that is asked to be opened just before. Requests act in the order in which they were asked for. Hands out the number
+ * of the request, counted from 1 over those that were taken: sam_client_next_event tells by it, once, that the request acted or was
+ * refused. A write that would find the same text as one that waits is that one, and has its number. Refused, in this order, and client
+ * and number are then as they were: SAM_NOT_TEXT if the text is not UTF-8; SAM_NO_MEMORY if there is no memory for its runes; SAM_NONE if
+ * no event has this kind; SAM_COUNT_FULL if 2^64-1 requests were taken; SAM_WAITING while an edit was put that has not acted: go on first;
+ * SAM_TOO_MANY if 1,000 requests wait; SAM_COUNT_FULL if 2^32-1 were taken while edits or requests waited; SAM_NO_MEMORY. */
+SAM_MUST_USE sam_status sam_client_ask(sam_client *client, const sam_event *event, const uint8_t *text, size_t len, uint64_t *number);
 
 /* Takes back the next insertion that waits over a file, if an edit could act at once and the file has no room for this one, because the
  * host put more in meanwhile. Ask for it where the client is idle and edits wait over a free file. Copies its runes in UTF-8, all of them,

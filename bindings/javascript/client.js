@@ -36,7 +36,8 @@ export class Client extends Clocked(Shown(Texts)) {
   }
 
   ask(kind, fields) {
-    makeOfEvent(this, "ask", kind, fields);
+    makeOfEvent(this, "ask", kind, fields, result(0));
+    return u64(0);
   }
 
   get hasAll() {

@@ -37,8 +37,8 @@ export const EventKind = Object.freeze({
   PASTE_CMD: 24,
 });
 
-/** Makes a call that takes an event and its text. */
-export function makeOfEvent(side, name, kind, { tag = 0, start = 0, number = 0, version = 0, text = "" } = {}) {
+/** Makes a call that takes an event and its text, and the places of its `results`. */
+export function makeOfEvent(side, name, kind, { tag = 0, start = 0, number = 0, version = 0, text = "" } = {}, ...results) {
   const record = new DataView(new ArrayBuffer(EVENT_SIZE));
   [kind, start, number].forEach((word, at) => record.setUint32(4 * at, long(word), true));
   record.setUint16(12, short(tag), true);
@@ -46,7 +46,7 @@ export function makeOfEvent(side, name, kind, { tag = 0, start = 0, number = 0, 
   const bytes = bytesOf(text) ?? new Uint8Array([0xff]); // so that the library refuses it
   lend([new Uint8Array(record.buffer), bytes], (places) => {
     if (places === null) throw errorOf(isFreed(side) ? Status.NO_HANDLE : Status.NO_MEMORY);
-    make(side, name, ...places, BigInt(bytes.length));
+    make(side, name, ...places, BigInt(bytes.length), ...results);
   });
 }
 

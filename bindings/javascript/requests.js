@@ -1,9 +1,9 @@
-/* The requests of a session that wait in its client: what is called once each has acted, or was refused. */
+/* The requests of a session that wait in its client, by their numbers: what is called once each has acted, or was refused. */
 
 export class Requests {
   #client;
   #wake;
-  #asked = []; // of each that waits
+  #waiting = new Map();
 
   /** `wake` has the client go on soon. */
   constructor(client, wake) {
@@ -14,16 +14,17 @@ export class Requests {
   /** Asks for an event. `meet` is called with null once it has acted, else with the reason why it was refused. Returns whether it waits by
    * itself: a write may be the one that waits already. */
   ask(kind, fields, meet = () => {}) {
-    const before = this.#client.requests;
-    this.#client.ask(kind, fields);
+    const number = this.#client.ask(kind, fields);
     this.#wake();
-    const isNew = this.#client.requests > before;
-    if (isNew) this.#asked.push(meet);
+    const isNew = !this.#waiting.has(number);
+    if (isNew) this.#waiting.set(number, meet);
     return isNew;
   }
 
-  /** An event has acted, or was refused: a request, if one has left the client's queue since the last one did. */
-  meet(why) {
-    if (this.#asked.length > this.#client.requests) this.#asked.shift()(why);
+  /** A step was made, by which a request may have acted or was refused. */
+  meet({ step, request, why }) {
+    const meet = this.#waiting.get(request);
+    this.#waiting.delete(request);
+    meet?.(step === "refused" ? why : null);
   }
 }

@@ -371,8 +371,7 @@ export class Session extends EventTarget {
   }
 
   #meet({ kind, did }) {
-    if (kind === "stepped" && did.step === "acted") this.#requests.meet(null);
-    if (kind === "refused") this.#requests.meet(did.why);
+    if (did !== null) this.#requests.meet(did);
     if (kind === "note") this.#hear(this.#client.note);
     this.#tellSplices(did?.kind === Kind.HGROW);
   }

@@ -15,9 +15,9 @@ const DID = 10; // words of 32 bits of a sam_did
 
 // A sam_did stands at result(0): its event, its count, its step and why, its start and gone, its came, its tag, its kind, and whether it
 // loads.
-const didTag = () => u16(4, 4);
-const didKind = () => u8(4, 6);
-const didLoads = () => u8(4, 7) !== 0;
+const didTag = () => u16(5, 4);
+const didKind = () => u8(5, 6);
+const didLoads = () => u8(5, 7) !== 0;
 
 function range(side, name, tag) {
   make(side, name, short(tag), result(0), result(1));
@@ -123,8 +123,9 @@ class Side extends Streams {
 
 /** Returns the step of a terminal that a call has handed out at result(0). */
 export function terminalStep() {
-  const change = { start: u32(3), gone: u32(3, 4), came: u32(4) };
-  return { step: STEPS[u32(2)], kind: didKind(), tag: didTag(), change, loads: didLoads(), event: u64(0), why: u32(2, 4) };
+  const change = { start: u32(4), gone: u32(4, 4), came: u32(5) };
+  const numbers = { event: u64(0), request: u64(1), why: u32(3, 4) };
+  return { step: STEPS[u32(3)], kind: didKind(), tag: didTag(), change, loads: didLoads(), ...numbers };
 }
 
 /** Adds to a class the steps of terminal and overlay. */
@@ -227,7 +228,7 @@ export class Host extends Side {
 
   step() {
     make(this, "step", result(0));
-    return { step: STEPS[u32(2)], kind: didKind(), tag: didTag(), count: u64(1) };
+    return { step: STEPS[u32(3)], kind: didKind(), tag: didTag(), count: u64(2) };
   }
 
   nextWritten() {
@@ -332,7 +333,7 @@ export class Terminal extends Stepping(Screened(Side)) {
   nextFrame() {
     return ifAny(() => {
       make(this, "next_frame", result(0));
-      return { kind: didKind(), tag: didTag(), start: u32(3), gone: u32(3, 4), loads: didLoads() };
+      return { kind: didKind(), tag: didTag(), start: u32(4), gone: u32(4, 4), loads: didLoads() };
     });
   }
 

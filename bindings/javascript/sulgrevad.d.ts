@@ -327,8 +327,8 @@ export type FileState = {
   view: { start: number; end: number };
 };
 /** The result of a step of a terminal: `event` is the number of an event that acted or was refused, and `why` the status of a refusal.
- * `loads` says whether a frame loaded runes in the place of gaps: more of the text is known then, and nothing changed. A field that is not
- * of its step is 0 or false. */
+ * `loads` says whether a frame loaded runes in the place of gaps: more of the text is known then, and nothing changed. `request` is the
+ * number of the request of a client that acted or was refused, as `ask` returned it. A field that is not of its step is 0 or false. */
 export type TerminalStep = {
   step: "idle" | "locked" | "wrote" | "received" | "acted" | "refused";
   kind: number;
@@ -336,6 +336,7 @@ export type TerminalStep = {
   change: Change;
   loads: boolean;
   event: number;
+  request: number;
   why: number;
 };
 
@@ -924,10 +925,11 @@ export declare class Client extends Clocked {
   replace(tag: number, start: number, end: number, text: Text): void;
   /** Asks for what is no edit, by its number in EventKind. It stands in one order with the edits: it acts as the client goes on, once
    * all edits before it are put, and finds the text that is shown now, with the host's changes since. The fields are those of
-   * `bringEvent` of an overlay. Throws, in this order, and the client is then as it was: NotText; NoMemory; Missing if no event has this
-   * kind; a SamError with the code WAITING while an edit was put that has not acted: go on first; one with the code TOO_MANY if 1,000
-   * requests wait; CountFull; NoMemory. */
-  ask(kind: number, fields?: EventFields): void;
+   * `bringEvent` of an overlay. Returns the number of the request, by which `nextEvent` tells once that it acted or was refused; a write
+   * that would find the same text as one that waits is that one, and has its number. Throws, in this order, and the client is then as it
+   * was: NotText; NoMemory; Missing if no event has this kind; a SamError with the code WAITING while an edit was put that has not acted:
+   * go on first; one with the code TOO_MANY if 1,000 requests wait; CountFull; NoMemory. */
+  ask(kind: number, fields?: EventFields): number;
   /** Returns whether the host has all that the user did, and all notes: nothing waits here, and the host's end of the link has acknowledged
    * all. */
   readonly hasAll: boolean;

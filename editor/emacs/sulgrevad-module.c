@@ -353,7 +353,8 @@ static emacs_value ask(emacs_env *env, struct session *session, emacs_value *wor
     uint8_t *text = utf8_in(env, words[4], &len);
     if (text == NULL)
         return nil(env);
-    sam_status status = sam_client_ask(&session->client, &event, text, len);
+    uint64_t request;
+    sam_status status = sam_client_ask(&session->client, &event, text, len, &request);
     free(text);
     return status == SAM_NONE ? error_of(env, status) : done(env, status);
 }

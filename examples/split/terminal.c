@@ -150,7 +150,8 @@ static void go_on(void)
 static void ask(sam_event_kind kind, uint32_t number)
 {
     sam_event event = {.kind = kind, .tag = TAG, .number = number, .version = 2};
-    sam_status status = sam_client_ask(&client, &event, NULL, 0);
+    uint64_t request;
+    sam_status status = sam_client_ask(&client, &event, NULL, 0, &request);
     snprintf(told, sizeof told, "%s", status == SAM_OK ? "" : sam_status_text(status));
 }
 

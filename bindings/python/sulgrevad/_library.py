@@ -19,7 +19,7 @@ class Did(ctypes.Structure):
     """sam_did: the result of a step."""
 
     _fields_ = [
-        ("event", c_uint64), ("count", c_size_t), ("step", c_uint32), ("why", c_uint32),
+        ("event", c_uint64), ("request", c_uint64), ("count", c_size_t), ("step", c_uint32), ("why", c_uint32),
         ("start", c_uint32), ("gone", c_uint32), ("came", c_uint32), ("tag", c_uint16), ("kind", c_uint8),
         ("loads", c_bool),
     ]  # fmt: skip
@@ -193,7 +193,7 @@ SIGNATURES: Dict[str, Tuple[Any, ...]] = {
     "client_take_out": (c_uint64, *_BUFFER, _SIZE), "client_acknowledge": (), "client_next_event": (c_uint64, _U32, _DID),
     "client_next_splice": (POINTER(CSplice),), "client_note": (*_BUFFER, _SIZE), "client_put_note": (*_BYTES, c_uint64),
     "client_step_edits": (c_uint64, POINTER(CChanges), _U32, _DID),
-    "client_replace": (c_uint16, c_uint32, c_uint32, *_BYTES), "client_ask": (POINTER(CEvent), *_BYTES),
+    "client_replace": (c_uint16, c_uint32, c_uint32, *_BYTES), "client_ask": (POINTER(CEvent), *_BYTES, _U64),
     "client_replace_each": (c_uint16, POINTER(CReplacement), c_size_t, *_BYTES, _SIZE),
     "client_drop_next": (c_uint16, POINTER(CSplice), *_BUFFER, _SIZE), "client_has_all": (_BOOL,),
     "client_is_unsaved": (c_uint16, _BOOL), "client_requests": (_SIZE,),

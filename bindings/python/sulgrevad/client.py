@@ -2,7 +2,7 @@
 import ctypes
 import enum
 import sys
-from ctypes import byref, c_size_t, c_uint32
+from ctypes import byref, c_size_t, c_uint32, c_uint64
 from typing import Iterator, List, NamedTuple, Optional, Sequence, Tuple, Union
 
 from sulgrevad._library import CChanges, CReplacement, CSplice, Did, Text, bytes_of
@@ -178,16 +178,18 @@ class Client(Clocked, Shown, Stopping):
 
     def ask(
         self, kind: EventKind, tag: int = 0, start: int = 0, number: int = 0, *, version: int = 0, text: Text = ""
-    ) -> None:
+    ) -> int:
         """Asks for what is no edit. It stands in one order with the edits: it acts as the client goes on, once all edits before it are put,
         and finds the text that is shown now, with the host's changes since. A place that it names moves with that text: what the host puts
         in at the place itself stands behind it, and a range of which all goes is empty there; a place past the end of the text stays. The
-        arguments are those of `bring_event` of an overlay. Raises, in this order, and the client is then as it was: NotText; NoMemory;
-        Missing if no event has this kind; Waiting while an edit was put that has not acted: go on first; TooMany if 1,000 requests wait;
-        CountFull; NoMemory."""
-        event = event_of(kind, tag, start, number, version)
+        arguments are those of `bring_event` of an overlay. Returns the number of the request, by which `next_event` tells once that it
+        acted or was refused; a write that would find the same text as one that waits is that one, and has its number. Raises, in this
+        order, and the client is then as it was: NotText; NoMemory; Missing if no event has this kind; Waiting while an edit was put that
+        has not acted: go on first; TooMany if 1,000 requests wait; CountFull; NoMemory."""
+        event, request = event_of(kind, tag, start, number, version), c_uint64()
         data = bytes_of(text)
-        self._call("ask", byref(event), data, len(data))
+        self._call("ask", byref(event), data, len(data), byref(request))
+        return request.value
 
     # ---- The session
 

@@ -86,7 +86,8 @@ def event_of(kind: EventKind, tag: int, start: int, number: int, version: int) -
 def did_of(did: Did) -> TerminalDid:
     """Returns what a step did."""
     why = Status(did.why) if did.why else None
-    return TerminalDid(STEPS[did.step], did.kind, did.tag, Change(did.start, did.gone, did.came), did.event, why, did.loads)
+    change = Change(did.start, did.gone, did.came)
+    return TerminalDid(STEPS[did.step], did.kind, did.tag, change, did.event, why, did.loads, did.request)
 
 
 SPLICE_KINDS = (SpliceKind.CAME, *SpliceKind)  # by their numbers, which begin with 1

@@ -48,6 +48,7 @@ static void no_handle_for_the_user(sam_client *none)
     sam_event event = {.kind = SAM_EVENT_FLUSH};
     sam_client_event told = SAM_CLIENT_NOTE;
     sam_changes changes = {.got = 5, .used = 6};
+    uint64_t number = 4;
     size_t len = 7;
     bool is = true;
     WANT(sam_client_next_event(none, 0, &told, &did), SAM_NO_HANDLE);
@@ -55,12 +56,12 @@ static void no_handle_for_the_user(sam_client *none)
     WANT(sam_client_step_edits(none, 0, &changes, &told, &did), SAM_NO_HANDLE);
     WANT(sam_client_replace(none, 0, 0, 0, BYTES("\xFF")), SAM_NO_HANDLE);
     WANT(sam_client_replace_each(none, 0, NULL, 0, BYTES("\xFF"), &len), SAM_NO_HANDLE);
-    WANT(sam_client_ask(none, &event, BYTES("\xFF")), SAM_NO_HANDLE);
+    WANT(sam_client_ask(none, &event, BYTES("\xFF"), &number), SAM_NO_HANDLE);
     WANT(sam_client_drop_next(none, 0, &splice, bytes, sizeof bytes, &len), SAM_NO_HANDLE);
     WANT(sam_client_has_all(none, &is), SAM_NO_HANDLE);
     WANT(sam_client_requests(none, &len), SAM_NO_HANDLE);
     WANT(sam_client_is_unsaved(none, 0, &is), SAM_NO_HANDLE);
-    WANT(memcmp(bytes, "unused", 7) == 0 && len == 7 && is, 1);
+    WANT(memcmp(bytes, "unused", 7) == 0 && len == 7 && is && number == 4, 1);
     WANT(changes.got == 5 && changes.used == 6, 1);
     WANT(did.event == 8 && splice.count == 9 && told == SAM_CLIENT_NOTE, 1);
 }
@@ -125,7 +126,7 @@ static uint64_t due_in(void)
 static void begin_client(bool take_over)
 {
     now = 1000;
-    attempt = 0;
+    attempt = asked = answered = 0;
     copy.len = 0;
     WANT(sam_client_new(&client, id, take_over, now), SAM_OK);
     WANT(sam_client_new(&client, id, take_over, now), SAM_MADE);
@@ -424,7 +425,7 @@ static void has_dot(uint16_t tag, uint32_t start, uint32_t end)
 static void command_line(const char *line)
 {
     sam_event event = {.kind = SAM_EVENT_TYPE_CMD};
-    WANT(sam_client_ask(&client, &event, (const uint8_t *)line, strlen(line)), SAM_OK);
+    WANT(sam_client_ask(&client, &event, (const uint8_t *)line, strlen(line), &asked), SAM_OK);
     go_on();
 }
 
@@ -758,6 +759,34 @@ static void taken_back(void)
 
 /* ---- The command file ---- */
 
+/* Requests are numbered as they are taken, and a write that is shared as the one that it shares. Each is told of once, in their order, as it
+ * acts or is refused; an edit has no number. */
+static void numbers(void)
+{
+    open_both("hello", true);
+    uint64_t before = asked;
+    WANT(before > 0 && answered == before, 1);
+    requests_told = 0;
+    for (int i = 0; i < 2; i++) {
+        WANT(sam_client_replace(&client, 1, 0, 0, BYTES("x")), SAM_OK);
+        WANT(ask_for(SAM_EVENT_WRITE, 1, 0, 0), SAM_OK);
+        WANT(ask_for(SAM_EVENT_WRITE, 1, 0, 0), SAM_OK);
+        WANT(asked, before + 1 + (uint64_t)i);
+    }
+    WANT(ask_for(SAM_EVENT_SELECT, 1, 0, 99), SAM_OK);
+    WANT(asked, before + 3);
+    for (int i = 0; i < 2; i++) {
+        WANT(ask_for(SAM_EVENT_WRITE, 1, 0, 0), SAM_OK);
+        WANT(asked, before + 4);
+    }
+    WANT(ask_for(SAM_EVENT_SELECT, 1, 0, 1), SAM_OK);
+    WANT(asked, before + 5);
+    settle();
+    WANT(requests_told == 5 && answered == before + 5, 1);
+    WANT(refused_request, before + 3);
+    free_both();
+}
+
 /* What is typed there is shown once it acts, and splices tell of it; the line that it ends runs. */
 static void command_file(void)
 {
@@ -767,7 +796,7 @@ static void command_file(void)
     settle();
     WANT(ask_for(SAM_EVENT_OPEN_CMD, 0, 0, 0), SAM_OK);
     settle();
-    WANT(sam_client_ask(&client, &event, BYTES(",x/l/c/L/\n")), SAM_OK);
+    WANT(sam_client_ask(&client, &event, BYTES(",x/l/c/L/\n"), &asked), SAM_OK);
     WANT(steps(SAM_CLIENT_STEPPED).step, SAM_STEP_ACTED);
     wants_splice(SAM_SPLICE_WENT, 0, 0, 0);
     wants_splice(SAM_SPLICE_CAME, 0, 10, 0);
@@ -821,16 +850,18 @@ static void refusals(void)
     memset(million, 'm', sizeof million);
     WANT(sam_client_replace(&client, 1, 0, 5, million, sizeof million - 1), SAM_REFUSAL_TOO_LONG);
     shows(1, "hello");
-    WANT(sam_client_ask(&client, &event, BYTES("\xFF")), SAM_NOT_TEXT);
+    WANT(sam_client_ask(&client, &event, BYTES("\xFF"), &number), SAM_NOT_TEXT);
     event.kind = 0;
-    WANT(sam_client_ask(&client, &event, NULL, 0), SAM_NONE);
+    WANT(sam_client_ask(&client, &event, NULL, 0, &number), SAM_NONE);
     event.kind = (sam_event_kind)(SAM_EVENT_PASTE_CMD + 1);
-    WANT(sam_client_ask(&client, &event, NULL, 0), SAM_NONE);
+    WANT(sam_client_ask(&client, &event, NULL, 0, &number), SAM_NONE);
+    WANT(number, 0);
     refused = 0;
     WANT(READ(sam_client_state(&client, &state)), SAM_OK);
     WANT(ask_for(SAM_EVENT_SELECT, 1, 3, 9), SAM_OK);
     go_on();
     WANT(refused == 1 && refused_event == state.events + 1 && refused_why == SAM_REFUSAL_BAD_POSITION, 1);
+    WANT(refused_request == asked && answered == asked, 1);
     WANT(READ(sam_client_fault_place(&client, &number)), SAM_NONE);
     WANT(ask_for(SAM_EVENT_EXIT, 0, 0, 0), SAM_OK);
     settle();
@@ -910,7 +941,7 @@ static void names(void)
     settle();
     WANT(READ(sam_client_current(&client, &tag)), SAM_OK);
     WANT(tag, 2);
-    WANT(sam_client_ask(&client, &event, BYTES("snarf")), SAM_OK);
+    WANT(sam_client_ask(&client, &event, BYTES("snarf"), &asked), SAM_OK);
     settle();
     WANT(ask_for(SAM_EVENT_GET_SNARF, 0, 0, 0), SAM_OK);
     settle();
@@ -945,6 +976,7 @@ int main(void)
     many_edits();
     many_loads();
     taken_back();
+    numbers();
     command_file();
     closed();
     refusals();

@@ -122,15 +122,15 @@ function checkRefusedPieces() {
 function checkTypedUnderALock() {
   const { client, far } = begun("hello");
   same([client.hasAll, client.isUnsaved(1), client.nextWaiting(), client.text(1)], [true, false, null, "hello"]);
-  client.ask(EventKind.WRITE, { tag: 1 });
+  const write = client.ask(EventKind.WRITE, { tag: 1 });
   const [acted] = ofKind("stepped", told(client));
-  same([acted.did.step, client.file(1).isLocked, client.requests], ["acted", true, 0]);
+  same([acted.did.step, acted.did.request, client.file(1).isLocked, client.requests], ["acted", write, true, 0]);
   client.replace(1, 5, 5, " w\u{1D11E}rld");
   client.broken(1, 1000);
   client.replace(1, 0, 1, "J");
   same([client.text(1), client.read(1, 6, 2), client.len(1)], ["Jello w\u{1D11E}rld", ["w", "\u{1D11E}"], 11]);
   same([client.waiting(1), client.nextWaiting(), client.nextWaiting(2), client.isWaiting(1)], [7, 1, null, true]);
-  client.ask(EventKind.WRITE, { tag: 1 });
+  same([client.ask(EventKind.WRITE, { tag: 1 }), client.ask(EventKind.WRITE, { tag: 1 })], [write + 1, write + 1]);
   client.replace(1, 0, 1, "H");
   same([client.requests, client.hasAll, client.isUnsaved(1), far.host.text(1)], [1, false, true, "hello"]);
   far.begin();
@@ -233,9 +233,9 @@ function checkRefusedClient() {
   throws("Missing", "NONE", () => client.ask(25));
   throws("Missing", "NONE", () => client.name(9));
   const { events } = client.state();
-  client.ask(EventKind.SELECT, { tag: 1, start: 3, number: 9 });
+  const asked = client.ask(EventKind.SELECT, { tag: 1, start: 3, number: 9 });
   const [{ did }] = ofKind("refused", told(client));
-  same([did.event, did.why], [events + 1, Status.REFUSAL_BAD_POSITION]);
+  same([did.event, did.request, did.why], [events + 1, asked, Status.REFUSAL_BAD_POSITION]);
   client.ask(EventKind.EXIT);
   for (let asked = client.requests; asked < MOST_WAITING; asked++) client.ask(EventKind.SEARCH, { tag: 1 });
   throws("SamError", "TOO_MANY", () => client.ask(EventKind.SEARCH, { tag: 1 }));

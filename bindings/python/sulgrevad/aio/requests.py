@@ -3,10 +3,11 @@ import asyncio
 from collections import deque
 from dataclasses import dataclass
 from functools import partial
-from typing import Any, Callable, Deque, List
+from typing import Any, Callable, Deque, Dict, List
 
 from sulgrevad.client import Client
 from sulgrevad.overlay import EventKind
+from sulgrevad.results import TerminalDid
 from sulgrevad.status import NoMemory, Status, TooMany, Waiting, error_of
 
 MOST_REQUESTS = 1000  # that wait
@@ -44,12 +45,13 @@ class Request:
 
 
 class Requests:
-    """The requests of a client, in their order: those that it hasn't got, because memory was out, and those that have not acted."""
+    """The requests of a client, in their order: those that it hasn't got, because memory was out, and by their numbers those that have not
+    acted."""
 
     def __init__(self, client: Client) -> None:
         self._client = client
         self._new: Deque[Request] = deque()
-        self._waiting: Deque[Request] = deque()
+        self._waiting: Dict[int, Request] = {}
 
     def __len__(self) -> int:
         return len(self._new) + len(self._waiting)
@@ -63,24 +65,26 @@ class Requests:
     def put(self) -> None:
         """Gives the client what it hasn't got. Raises NoMemory: the rest stays."""
         while self._new:
-            new, before = self._new[0], self._client.requests
+            new = self._new[0]
             try:
-                self._client.ask(new.kind, new.tag, new.start, new.number, version=new.version, text=new.text)
+                number = self._client.ask(new.kind, new.tag, new.start, new.number, version=new.version, text=new.text)
             except Waiting:  # an edit was put for whose step memory was out
                 raise NoMemory(Status.NO_MEMORY) from None
             self._new.popleft()
-            is_shared = self._client.requests == before
+            is_shared = number in self._waiting
             if not is_shared:
-                self._waiting.append(new)
+                self._waiting[number] = new
             new.taken(is_shared)
 
-    def acted(self) -> None:
-        """The oldest has acted."""
-        self._waiting.popleft().acted()
-
-    def refused(self, why: Status) -> None:
-        """The oldest is refused."""
-        self._waiting.popleft().refused(error_of(why))
+    def take(self, did: TerminalDid) -> None:
+        """Answers the request that has acted, or was refused, if this tells of one."""
+        if did.request == 0:
+            return
+        request = self._waiting.pop(did.request)
+        if did.why is None:
+            request.acted()
+        else:
+            request.refused(error_of(did.why))
 
 
 class Run:

@@ -15,8 +15,7 @@ from sulgrevad.client import Client, ClientEvent, ClientEventKind
 from sulgrevad.line import LineDetails, Tick
 from sulgrevad.note import Note, NoteCode, NoteKind, read_note, write_note
 from sulgrevad.overlay import EventKind, Splice, SpliceKind
-from sulgrevad.results import TerminalDid
-from sulgrevad.status import NoteFault, SamError, Status, Step, TooMany
+from sulgrevad.status import NoteFault, SamError, Status, TooMany
 
 VERSION = 2  # of the protocol
 OPENING = 30.0  # seconds that a connection may take
@@ -269,10 +268,8 @@ class Session(End):
     def _take(self, told: ClientEvent) -> None:
         for splice in [*self._client.splices()]:
             self._show(splice)
-        if told.did and told.did.why is not None:
-            self._requests.refused(told.did.why)
-        elif told.did and told.did.step == Step.ACTED and not is_edit(told.did):
-            self._requests.acted()
+        if told.did:
+            self._requests.take(told.did)
         elif told.kind == ClientEventKind.NOTE:
             self._hear(self._client.note)
         for wait in [*self._waits]:
@@ -449,11 +446,6 @@ class Session(End):
                 task.cancel()
         if self._on_line:
             told_of(self._on_line)
-
-
-def is_edit(did: TerminalDid) -> bool:
-    """Whether what acted is an edit. No request changes a text but that of the command file."""
-    return did.tag != COMMAND_FILE and (did.change.gone > 0 or did.change.came > 0)
 
 
 def answer(futures: "List[asyncio.Future[Note]]", note: Note) -> None:

@@ -309,6 +309,7 @@ pub const SAM_EFFECT_CLOSE: sam_effect_kind = 3;
 #[repr(C)]
 pub struct sam_did {
     pub event: u64,
+    pub request: u64,
     pub count: usize,
     pub step: sam_step,
     pub why: sam_status,
@@ -1292,11 +1293,12 @@ extern "C" {
     /// Goes on until there is something to tell, and hands out what (enum sam_client_event). Bytes of the host are received, requests and
     /// edits that wait act once they can, and all that is composed goes into the line. Call it after each call that brought something,
     /// until it hands out SAM_CLIENT_IDLE, and take all splices before each call. `did` is as sam_overlay_step hands it out at
-    /// SAM_CLIENT_STEPPED, and has `event` and `why` alone at SAM_CLIENT_REFUSED: which event it was, counted from 1 over all events that
-    /// acted or were refused, edits that were put among them, and SAM_REFUSAL... Else its fields are 0. Refused, in this order, and nothing
-    /// is handed out then: SAM_WAITING if splices are left, and all is as it was. Else some of what waited may be done, and nothing is
-    /// lost: why the terminal has stopped, at this call or before, SAM_STREAM.. or SAM_TERM_REFUSED..; SAM_COUNT_FULL; SAM_UNFINISHED if
-    /// memory is short: call it again later.
+    /// SAM_CLIENT_STEPPED, and has `event`, `request` and `why` alone at SAM_CLIENT_REFUSED: which event it was, counted from 1 over all
+    /// events that acted or were refused, edits that were put among them, and SAM_REFUSAL... If a request acted or was refused, `request`
+    /// is its number, as sam_client_ask handed it out: each is told once, in their order, over all connections. Else the fields are 0.
+    /// Refused, in this order, and nothing is handed out then: SAM_WAITING if splices are left, and all is as it was. Else some of what
+    /// waited may be done, and nothing is lost: why the terminal has stopped, at this call or before, SAM_STREAM.. or SAM_TERM_REFUSED..;
+    /// SAM_COUNT_FULL; SAM_UNFINISHED if memory is short: call it again later.
     pub fn sam_client_next_event(client: *mut sam_client, now: u64, kind: *mut sam_client_event, did: *mut sam_did) -> sam_status;
     /// Goes on as sam_client_next_event does, and over each step that is an edit: of the host's (Hgrowdata, Hcut), of runes that are loaded
     /// (Hdata), or one of the user's that acted, which made no splice. Hands out their splices in their order, each with the runes that it
@@ -1348,12 +1350,20 @@ extern "C" {
     /// the edits: it acts as the client goes on, once all edits before it are put, and finds the text that is shown now, with the host's
     /// changes since. A place that it names is one of that text, and moves with it as the host changes the text: what comes in at the place
     /// itself stands behind it, and a range of which all goes is empty there. A place past the end of the text doesn't move: it is one of a
-    /// text to come, as of a file that is asked to be opened just before. Requests act in the order in which they were asked for; a write
-    /// that would find the same text as one that waits is that one. Refused, in this order, and the client is then as it was: SAM_NOT_TEXT
-    /// if the text is not UTF-8; SAM_NO_MEMORY if there is no memory for its runes; SAM_NONE if no event has this kind; SAM_WAITING while
-    /// an edit was put that has not acted: go on first; SAM_TOO_MANY if 1,000 requests wait; SAM_COUNT_FULL if 2^32-1 were taken while
-    /// edits or requests waited; SAM_NO_MEMORY.
-    pub fn sam_client_ask(client: *mut sam_client, event: *const sam_event, text: *const u8, len: usize) -> sam_status;
+    /// text to come, as of a file that is asked to be opened just before. Requests act in the order in which they were asked for. Hands out
+    /// the number of the request, counted from 1 over those that were taken: sam_client_next_event tells by it, once, that the request
+    /// acted or was refused. A write that would find the same text as one that waits is that one, and has its number. Refused, in this
+    /// order, and client and number are then as they were: SAM_NOT_TEXT if the text is not UTF-8; SAM_NO_MEMORY if there is no memory for
+    /// its runes; SAM_NONE if no event has this kind; SAM_COUNT_FULL if 2^64-1 requests were taken; SAM_WAITING while an edit was put that
+    /// has not acted: go on first; SAM_TOO_MANY if 1,000 requests wait; SAM_COUNT_FULL if 2^32-1 were taken while edits or requests waited;
+    /// SAM_NO_MEMORY.
+    pub fn sam_client_ask(
+        client: *mut sam_client,
+        event: *const sam_event,
+        text: *const u8,
+        len: usize,
+        number: *mut u64,
+    ) -> sam_status;
     /// Takes back the next insertion that waits over a file, if an edit could act at once and the file has no room for this one, because
     /// the host put more in meanwhile. Ask for it where the client is idle and edits wait over a free file. Copies its runes in UTF-8, all
     /// of them, and hands out the number of bytes, and the splice by which they went of the shown text, as sam_overlay_drop_next does, with

@@ -19,11 +19,15 @@ pub enum ClientEvent {
     Idle,
     /// 1,000 things moved that are not told, and more may: call again.
     Busy,
-    /// A frame was received or an event acted. The splices are to be taken.
-    Stepped(TermStep),
-    /// The event of this number was refused, counted from 1 over all events that acted or were refused, edits that were put among them. A
-    /// reason that this crate doesn't know is `Err`, with its number in sulgrevad.h.
-    Refused(u64, Result<Refusal, u32>),
+    /// A frame was received or an event acted. The splices are to be taken. If a request acted, its number stands beside it.
+    Stepped(TermStep, Option<u64>),
+    /// An event was refused: by its number over all events that acted or were refused, edits that were put among them; as a request, by
+    /// that of [`Client::ask`]. A reason that this crate doesn't know is `Err`, with its number in sulgrevad.h.
+    Refused {
+        event: u64,
+        request: Option<u64>,
+        why: Result<Refusal, u32>,
+    },
     /// A note came, which [`Client::note`] returns. All frames before it are received.
     Note,
 }
@@ -179,10 +183,15 @@ impl Client {
     pub fn next_event(&mut self, now: u64) -> Result<ClientEvent, Error> {
         let (mut kind, mut did) = (0, sam_did::default());
         done(unsafe { sys::sam_client_next_event(self.at(), now, &mut kind, &mut did) })?;
+        let request = (did.request != 0).then_some(did.request);
         Ok(match kind {
             sys::SAM_CLIENT_BUSY => ClientEvent::Busy,
-            sys::SAM_CLIENT_STEPPED => ClientEvent::Stepped(term_step(&did)),
-            sys::SAM_CLIENT_REFUSED => ClientEvent::Refused(did.event, Refusal::of(did.why).ok_or(did.why)),
+            sys::SAM_CLIENT_STEPPED => ClientEvent::Stepped(term_step(&did), request),
+            sys::SAM_CLIENT_REFUSED => ClientEvent::Refused {
+                event: did.event,
+                request,
+                why: Refusal::of(did.why).ok_or(did.why),
+            },
             sys::SAM_CLIENT_NOTE => ClientEvent::Note,
             _ => ClientEvent::Idle,
         })
@@ -225,11 +234,14 @@ impl Client {
     /// Asks for what is no edit. It stands in one order with the edits: it acts as the client goes on, once all edits before it are put,
     /// and finds the text that is shown now, with the host's changes since. A place that it names moves with that text: what the host puts
     /// in at the place itself stands behind it, and a range of which all goes is empty there; a place past the end of the text stays.
-    /// Errors, in this order, and the client is then as it was: `NoMemory`, if it brings a text; `Waiting` while an edit was put that has
-    /// not acted: go on first; `TooMany` if 1,000 requests wait; `CountFull`; `NoMemory`.
-    pub fn ask(&mut self, event: Event<'_>) -> Result<(), Error> {
-        let text = event.text();
-        done(unsafe { sys::sam_client_ask(self.at(), &event.numbers(), text.as_ptr(), text.len()) })
+    /// Returns the number of the request, by which `next_event` tells once that it acted or was refused; a write that would find the same
+    /// text as one that waits is that one, and has its number. Errors, in this order, and the client is then as it was: `NoMemory`, if it
+    /// brings a text; `Waiting` while an edit was put that has not acted: go on first; `TooMany` if 1,000 requests wait; `CountFull`;
+    /// `NoMemory`.
+    pub fn ask(&mut self, event: Event<'_>) -> Result<u64, Error> {
+        let (text, mut number) = (event.text(), 0);
+        done(unsafe { sys::sam_client_ask(self.at(), &event.numbers(), text.as_ptr(), text.len(), &mut number) })?;
+        Ok(number)
     }
 
     /// Takes back the next insertion that waits over a file, if an edit could act at once and the file has no room for this one, because

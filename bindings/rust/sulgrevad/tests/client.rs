@@ -16,7 +16,7 @@ struct Session {
     now: u64,
     splices: Vec<Splice>,
     notes: Vec<Vec<u8>>,
-    refused: Vec<Result<Refusal, u32>>,
+    refused: Vec<(Option<u64>, Result<Refusal, u32>)>,
 }
 
 impl Session {
@@ -63,7 +63,7 @@ impl Session {
         loop {
             match self.client.next_event(self.now).unwrap() {
                 ClientEvent::Idle => return,
-                ClientEvent::Refused(_, why) => self.refused.push(why),
+                ClientEvent::Refused { request, why, .. } => self.refused.push((request, why)),
                 ClientEvent::Note => self.notes.push(self.client.note()),
                 _ => self.splices.extend(self.client.splices()),
             }
@@ -212,7 +212,7 @@ fn runes_without_room_come_back() {
     session.grow(2, 999_995, true);
     assert!(matches!(
         session.client.next_event(0),
-        Ok(ClientEvent::Stepped(TermStep::Received { kind: 70, .. }))
+        Ok(ClientEvent::Stepped(TermStep::Received { kind: 70, .. }, None))
     ));
     assert_eq!(
         (session.client.drop_next(file), session.client.next_event(0)),
@@ -266,11 +266,11 @@ fn refusals_are_told() {
     assert_eq!(session.client.replace(9, 0, 0, "x"), Err(Error::Edit(Refusal::NoFile)));
     assert_eq!(session.client.replace(0, 0, 0, "x"), Err(Error::Edit(Refusal::CommandFile)));
     assert_eq!(session.client.replace(file, 3, 6, "x"), Err(Error::Edit(Refusal::BadPosition)));
-    session.client.ask(Event::Dclick(file, 9)).unwrap();
+    let asked = session.client.ask(Event::Dclick(file, 9)).unwrap();
     session.go_on();
     assert_eq!(
         (&session.refused[..], session.client.fault_place()),
-        (&[Ok(Refusal::BadPosition)][..], None)
+        (&[(Some(asked), Ok(Refusal::BadPosition))][..], None)
     );
     session.link.put(b"\xff\0\0").unwrap();
     session.down();

@@ -62,12 +62,13 @@ function Session:file_state(tag)
   return library.file
 end
 
--- Asks for what is no edit (SAM_EVENT_..), behind the edits that were told.
+-- Asks for what is no edit (SAM_EVENT_..), behind the edits that were told. Returns the number of the request.
 function Session:ask(kind, tag, start, number, words)
   local event = library.event
   event.kind, event.tag, event.start, event.number, event.version = kind, tag or 0, start or 0, number or 0, VERSION
-  self:must("ask", event, words or "", #(words or ""))
+  self:must("ask", event, words or "", #(words or ""), library.count)
   self.has_asked = true
+  return tonumber(library.count[0])
 end
 
 -- Puts a message for samhost into the line (SAM_NOTE_..).
@@ -119,7 +120,7 @@ function Session:next_event()
   if told == STEPPED then
     self:take_step(did)
   elseif told == REFUSED then
-    self.runs, self.is_running = {}, false -- it may have been a line
+    self:refuse_run(tonumber(did.request))
     M.say(library.words(did.why), "ErrorMsg")
   elseif status ~= 0 and status ~= UNFINISHED then
     error(library.words(status))
@@ -408,11 +409,9 @@ function Session:write(file)
   if options.fixendofline and not options.binary and not options.endofline then options.endofline = true end
   file:tell() -- also of changes that no event has told
   if file.refusal then return M.say(("%s is not written: %s"):format(file.path, file.refusal), "ErrorMsg") end
-  self:must("requests", size)
-  local before = size[0]
-  self:ask(C.SAM_EVENT_WRITE, file.tag)
-  self:must("requests", size)
-  if size[0] > before then file.writing = self:request(C.SAM_NOTE_WRITE, { tag = file.tag }) end -- else one that waits is this one
+  local asked = self:ask(C.SAM_EVENT_WRITE, file.tag)
+  if asked ~= file.asked then file.writing = self:request(C.SAM_NOTE_WRITE, { tag = file.tag }) end -- else one that waits is this one
+  file.asked = asked
   self:go_on()
 end
 
@@ -450,15 +449,23 @@ function Session:run(file, line, from, to)
   if file.refusal then error(("sulgrevad: not run: %s: %s"):format(file.path, file.refusal), 0) end
   local start = file:place_of(unpack(from))
   self:ask(C.SAM_EVENT_SELECT, file.tag, start, to and file:place_of(unpack(to)) or start)
-  self:ask(C.SAM_EVENT_WORK, file.tag)
+  local first, last = self:ask(C.SAM_EVENT_WORK, file.tag), nil
   local typed = "\n" .. line .. "\n" -- the first newline ends what may stand there, and the last one runs the line
   while typed ~= "" do
     local count = text.size(typed, MOST_TYPED)
-    self:ask(C.SAM_EVENT_TYPE_CMD, 0, 0, 0, typed:sub(1, count))
+    last = self:ask(C.SAM_EVENT_TYPE_CMD, 0, 0, 0, typed:sub(1, count))
     typed = typed:sub(count + 1)
   end
-  table.insert(self.runs, { file = file, window = api.nvim_get_current_win(), tick = api.nvim_buf_get_changedtick(file.buf) })
+  local tick = api.nvim_buf_get_changedtick(file.buf)
+  table.insert(self.runs, { file = file, window = api.nvim_get_current_win(), tick = tick, first = first, last = last })
   self:go_on()
+end
+
+-- A request was refused. If it was a part of a line, that won't be answered.
+function Session:refuse_run(request)
+  for at, run in ipairs(self.runs) do
+    if run.first <= request and request <= run.last then return table.remove(self.runs, at) end
+  end
 end
 
 -- A line is answered. If it was an address alone, its window goes there.
