@@ -16,10 +16,13 @@ use Rattle.sam_pending.specs.declared.fault.PendingFault.{PendingFault}
 use Rattle.sam_pending.specs.declared.told.Dropped.{Dropped}
 use Rattle.sam_term.specs.declared.event.UserEvent.{UserEvent}
 use Rattle.sam_endpoint.specs.TermEndpoints.{PlainTermEndpoint}
+use Rattle.sam_endpoint.specs.declared.step.TermStep.{TermStep}
 use Rattle.sam_endpoint.specs.declared.step.TermStep.TheVariants as step
 use Rattle.sam_overlay.specs.Calls.{PlainOverlay, waiting_at}
+use Rattle.sam_overlay.specs.Numbers.{after_asking, after_telling, no_numbers, number_of, told_number}
 use Rattle.sam_overlay.specs.declared.fault.AskFault.{AskFault}
 use Rattle.sam_overlay.specs.declared.fault.ReplaceFault.{ReplaceFault}
+use Rattle.sam_overlay.specs.declared.numbers.RequestNumbers.{RequestNumbers}
 use Rattle.sam_overlay.specs.declared.shown_change.Asked.{Asked}
 use Rattle.sam_shown.specs.Splices.{splices_of}
 use Rattle.sam_shown.specs.declared.splices.Splice.{Splice}
@@ -29,11 +32,9 @@ use Rattle.sam_client.specs.Clients.Act.{OfLine, Replace, Request, TakeBack}
 use Rattle.sam_client.specs.Delivery.{HasAll}
 use Rattle.sam_client.specs.Going.{GoesOn, IfIdle, Rests, most_moves}
 use Rattle.sam_client.specs.Notes.{PutsNote}
-use Rattle.sam_client.specs.Numbers.{after_asking, after_telling, no_numbers, number_of, told_number}
 use Rattle.sam_client.specs.declared.event.Event.{Event}
 use Rattle.sam_client.specs.declared.event.Event.TheVariants as tell
 use Rattle.sam_client.specs.declared.fault.GoOnFault.{GoOnFault}
-use Rattle.sam_client.specs.declared.numbers.RequestNumbers.{RequestNumbers}
 use Rattle.sam_client.specs.declared.replacement.Replaced.{Replaced}
 use Rattle.sam_client.specs.declared.replacement.Replacement.{Replacement}
 use Rattle.sam_c.specs.Calls.{AtHandle}
@@ -45,7 +46,7 @@ use Rattle.sam_c.specs.Links.{handed_or, id_bytes}
 use Rattle.sam_c.specs.OverlayStatus.{replace_status}
 use Rattle.sam_c.specs.Overlays.{Handed, HandsBack, NextWaiting, WithText, event_of, told_splice}
 use Rattle.sam_c.specs.Status.{ok, no_memory, is_made, no_handle, no_room, not_text, count_full, nothing, waiting}
-use Rattle.sam_c.specs.Steps.{did_nothing, did_of_term}
+use Rattle.sam_c.specs.Steps.{did_of_term}
 use Rattle.sam_c.specs.declared.client_end.ClientEnd.{ClientEnd}
 use Rattle.sam_c.specs.declared.overlay_calls.SamSplice.{SamSplice}
 use Rattle.sam_c.specs.declared.overlay_events.SamEvent.{SamEvent}
@@ -131,25 +132,25 @@ pub record Heard : Type 0 where
 abbrev pub heard : ℕ → SamDid → Heard
 heard kind did = record { kind = kind; did = did }
 
--- what was done, if the event says that
-abbrev pub did_of_event : Event → SamDid
-did_of_event tell.Idle = did_nothing 0
-did_of_event tell.Busy = did_nothing 0
-did_of_event (tell.Stepped x) = did_of_term x.step
-did_of_event (tell.Refused number why) = did_of_term (step.Refused number why)
-did_of_event tell.Note = did_nothing 0
+-- the step that is told; one that does nothing, if none is
+abbrev pub step_of : Event → TermStep
+step_of tell.Idle = step.Idle
+step_of tell.Busy = step.Idle
+step_of (tell.Stepped x) = x.step
+step_of (tell.Refused number why) = step.Refused number why
+step_of tell.Note = step.Idle
 
--- with the number of the request that did it
+-- what it did, with the number of the request that did it
 abbrev pub event_did : ℕ → Event → SamDid
-event_did request event = record (did_of_event event) { request = request }
+event_did request event = record (did_of_term (step_of event)) { request = request }
 
 -- what is told, or what stood there before
 abbrev pub heard_or : Heard → RequestNumbers → ℕ → Result Event GoOnFault → Heard
-heard_or before n requests (Ok event) = heard (event_number event) (event_did (told_number n requests event) event)
+heard_or before n requests (Ok event) = heard (event_number event) (event_did (told_number n requests (step_of event)) event)
 heard_or before n requests (Err why) = before
 
 abbrev pub numbers_or : RequestNumbers → ℕ → Result Event GoOnFault → RequestNumbers
-numbers_or n requests (Ok event) = after_telling n requests event
+numbers_or n requests (Ok event) = after_telling n requests (step_of event)
 numbers_or n requests (Err why) = n
 
 -- a step brings its splices

@@ -13,7 +13,8 @@ use crate::line_status::{receive_status, tick_number};
 use crate::link_calls::SamLinkId;
 use crate::link_status::{call_fault, out_fault, put_status};
 use crate::status::{MADE, NO_HANDLE, NO_MEMORY, OK};
-use sam_client::{Client, RequestNumbers};
+use sam_client::Client;
+use sam_overlay::RequestNumbers;
 use sam_shown::Splices;
 use std::alloc::Global;
 

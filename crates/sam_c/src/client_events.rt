@@ -9,7 +9,7 @@ ghost use Rattle.sam_c.specs.ClientStatus.{event_number};
 ghost use Rattle.sam_c.specs.Clients.{Asks, ClientAsked, ClientAskedOne, ClientDropped, ClientNextSplice, ClientNote, ClientNotePut};
 ghost use Rattle.sam_c.specs.Clients.{ClientReplaced, ClientReplacedBy, ClientReplacedEach, ClientReplacedEachBy};
 ghost use Rattle.sam_c.specs.Clients.{ClientWentOn, CopiesNote, TakesBack};
-ghost use Rattle.sam_c.specs.Clients.{event_did, heard, overlay_of, splices_after};
+ghost use Rattle.sam_c.specs.Clients.{event_did, heard, overlay_of, splices_after, step_of};
 ghost use Rattle.sam_c.specs.Overlays.{handed};
 
 use crate::client_end::ClientEnd;
@@ -21,7 +21,7 @@ use crate::overlay_drops::hand_back;
 use crate::overlay_events::{SamEvent, event_of};
 use crate::overlay_status::replace_fault;
 use crate::status::{COUNT_FULL, NO_HANDLE, NO_ROOM, NONE, NOT_TEXT, OK, WAITING};
-use crate::steps::{IDLE, SamDid, did_nothing, did_of_term};
+use crate::steps::{SamDid, did_of_term};
 use crate::term_events::read_status;
 use sam_client::{Event, Replacement, take_together};
 use sam_endpoint::TermStep;
@@ -30,6 +30,20 @@ use sam_shown::Splices;
 use sam_term::UserEvent;
 use std::alloc::Global;
 
+/// Returns the step that is told; one that does nothing, if none is.
+fn step_of(event: &Event) -> TermStep
+    ensures { result ≡ step_of event.now }
+{
+    match event {
+        Event::Idle | Event::Busy | Event::Note => TermStep::Idle,
+        Event::Refused(number, why) => TermStep::Refused {
+            number: *number,
+            why: *why,
+        },
+        Event::Stepped(step) => step.step,
+    }
+}
+
 /// Hands out what is told: its number, what a step did, the number of the request that did it, and the splices of that step.
 fn tell_event(event: Event, request: u64, kind: &mut u32, did: &mut SamDid, splices: &mut Splices)
     ensures kind { kind.new ≡ event_number event }
@@ -37,16 +51,13 @@ fn tell_event(event: Event, request: u64, kind: &mut u32, did: &mut SamDid, spli
     ensures splices { splices.new ≡ splices_after splices.old event }
 {
     *kind = event_number(&event);
-    *did = did_nothing(IDLE);
-    match event {
-        Event::Idle | Event::Busy | Event::Note => {}
-        Event::Refused(number, why) => *did = did_of_term(TermStep::Refused { number, why }),
-        Event::Stepped(step) => {
-            *did = did_of_term(step.step);
-            *splices = Splices::of(step.tag, step.told);
-        }
+    *did = SamDid {
+        request,
+        ..did_of_term(step_of(&event))
+    };
+    if let Event::Stepped(step) = event {
+        *splices = Splices::of(step.tag, step.told);
     }
-    did.request = request;
 }
 
 /// Goes on until there is something to tell, and hands out what: a number of `sam_client_event`, and what was done, if it says that.
@@ -70,7 +81,7 @@ pub extern "C" fn sam_client_next_event(
             match end.client.go_on(now) {
                 Ok(event) => {
                     let waiting = end.client.requests();
-                    let request = end.numbers.tell(&event, waiting);
+                    let request = end.numbers.tell(step_of(&event), waiting);
                     tell_event(event, request, kind, did, &mut end.splices);
                     OK
                 }

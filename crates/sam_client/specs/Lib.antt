@@ -5,4 +5,3 @@ pub mod Delivery
 pub mod Notes
 pub mod Going
 pub mod Batches
-pub mod Numbers

@@ -6,7 +6,6 @@ mod client;
 mod event;
 mod fault;
 mod going;
-mod numbers;
 mod packet;
 mod replacement;
 
@@ -14,5 +13,4 @@ pub use client::Client;
 pub use event::Event;
 pub use fault::GoOnFault;
 pub use going::MOST_MOVES;
-pub use numbers::RequestNumbers;
 pub use replacement::{Replaced, Replacement, take_together};

@@ -8,3 +8,4 @@ pub mod Requests
 pub mod Calls
 pub mod Marks
 pub mod Ordered
+pub mod Numbers

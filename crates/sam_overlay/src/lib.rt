@@ -7,6 +7,7 @@ mod frame_plan;
 pub mod laws;
 mod layers;
 mod marks;
+mod numbers;
 mod ordered;
 mod outcome;
 mod overlay;
@@ -15,6 +16,7 @@ mod shown_change;
 mod steps;
 
 pub use fault::{AskFault, PutFault, ReplaceFault};
+pub use numbers::RequestNumbers;
 pub use ordered::{MOST_WAITING_REQUESTS, OrderedOverlay};
 pub use overlay::{Overlay, is_request};
 pub use shown_change::{Asked, OverlayStep, Put, Told, Turn};

@@ -1,14 +1,13 @@
-//! The numbers of a client's requests.
+//! The numbers of requests.
 
 ghost use Rattle.std.specs.Prelude.{◌≡◌, ◌<◌, ◌^◌, ◌-◌, ◌==◌};
-ghost use Rattle.sam_client.specs.Numbers.{after_asking, after_telling, is_act, is_due, is_of_request, is_outcome, no_numbers, number_of, told_number};
+ghost use Rattle.sam_overlay.specs.Numbers.{after_asking, after_telling, is_due, is_outcome, no_numbers, number_of, told_number};
 
-use crate::event::Event;
+use crate::shown_change::Asked;
 use sam_endpoint::TermStep;
-use sam_overlay::Asked;
 
-/// Numbers the requests of a client, from 1 on as they are taken, and says of which one an event tells. Requests act in their order, so
-/// each is told of once, in the order of the numbers.
+/// Numbers the requests of an `OrderedOverlay`, from 1 on as they are taken, and says of which one a step tells. Requests act in their
+/// order, so each is told of once, in the order of the numbers.
 #[derive(Clone, Copy, Debug, PartialEq, Eq, Drop)]
 pub struct RequestNumbers {
     /// How many requests were taken.
@@ -17,30 +16,19 @@ pub struct RequestNumbers {
     told: u64,
 }
 
-/// Returns whether an event of the user acted by the step.
-fn is_act(step: &TermStep) -> bool
-    ensures { result ≡ is_act step.now }
+/// Returns whether an event of the user acted by the step, or was refused.
+fn is_outcome(step: TermStep) -> bool
+    ensures { result ≡ is_outcome step }
 {
     match step {
         TermStep::Idle | TermStep::Locked | TermStep::Wrote => false,
-        TermStep::Received { .. } | TermStep::Refused { .. } => false,
-        TermStep::Acted { .. } => true,
-    }
-}
-
-/// Returns whether an event of the user acted, or was refused.
-fn is_outcome(event: &Event) -> bool
-    ensures { result ≡ is_outcome event.now }
-{
-    match event {
-        Event::Idle | Event::Busy | Event::Note => false,
-        Event::Refused(_, _) => true,
-        Event::Stepped(step) => is_act(&step.step),
+        TermStep::Received { .. } => false,
+        TermStep::Acted { .. } | TermStep::Refused { .. } => true,
     }
 }
 
 impl RequestNumbers {
-    /// Makes the numbers of a new client.
+    /// Makes the numbers of an overlay that was asked for nothing.
     pub fn new() -> RequestNumbers
         ensures { result ≡ no_numbers }
     {
@@ -54,8 +42,8 @@ impl RequestNumbers {
         self.taken == u64::MAX
     }
 
-    /// Numbers a request as `Client::ask` has taken it, where `waiting` requests wait by then, and returns the number. A write that shares
-    /// one that waits has the number of that.
+    /// Numbers a request as `OrderedOverlay::ask` has taken it, where `waiting` requests wait by then, and returns the number. A write that
+    /// shares one that waits has the number of that.
     pub fn number(&mut self, asked: Asked, waiting: usize) -> u64
         requires { self.old.taken < 2 ^ 64 - 1 }
         ensures number { result ≡ number_of self.old waiting asked }
@@ -80,13 +68,13 @@ impl RequestNumbers {
         self.told < self.taken.saturating_sub(waiting as u64)
     }
 
-    /// Returns the number of the request of which an event of `Client::go_on` tells that it acted or was refused, where `waiting` requests
-    /// wait behind it; 0 if it tells of none, but of an edit, say. Each event is to be given once, as it comes.
-    pub fn tell(&mut self, event: &Event, waiting: usize) -> u64
-        ensures number { result ≡ told_number self.old waiting event.now }
-        ensures after { self.new ≡ after_telling self.old waiting event.now }
+    /// Returns the number of the request of which a step tells that it acted or was refused, where `waiting` requests wait behind it; 0 if
+    /// it tells of none, but of an edit, say. Each step is to be given once, as it comes.
+    pub fn tell(&mut self, step: TermStep, waiting: usize) -> u64
+        ensures number { result ≡ told_number self.old waiting step }
+        ensures after { self.new ≡ after_telling self.old waiting step }
     {
-        if !is_outcome(event) || !self.is_due(waiting) {
+        if !is_outcome(step) || !self.is_due(waiting) {
             return 0;
         }
         self.told += 1;
