@@ -1,12 +1,10 @@
 -- The numbers by which C knows what a client tells, and why it doesn't go on.
 use Rattle.std.specs.Prelude.{ℕ, Result, Ok, Err}
-use Rattle.sam_overlay.specs.declared.fault.AskFault.{AskFault}
-use Rattle.sam_overlay.specs.declared.fault.AskFault.TheVariants as unasked
 use Rattle.sam_client.specs.declared.event.Event.{Event}
 use Rattle.sam_client.specs.declared.event.Event.TheVariants as tell
 use Rattle.sam_client.specs.declared.fault.GoOnFault.{GoOnFault}
 use Rattle.sam_client.specs.declared.fault.GoOnFault.TheVariants.{Stopped, CountFull, OutOfMemory}
-use Rattle.sam_c.specs.Status.{ok, no_memory, unfinished, count_full, waiting, too_many, term_stop_status}
+use Rattle.sam_c.specs.Status.{ok, unfinished, count_full, term_stop_status}
 
 -- what is told
 abbrev pub event_number : Event → ℕ
@@ -25,14 +23,3 @@ go_on_fault OutOfMemory = unfinished
 abbrev pub go_on_status : Result Event GoOnFault → ℕ
 go_on_status (Ok event) = ok
 go_on_status (Err why) = go_on_fault why
-
--- why a request is not taken in
-abbrev pub ask_fault : AskFault → ℕ
-ask_fault unasked.Waiting = waiting
-ask_fault unasked.TooMany = too_many
-ask_fault unasked.CountFull = count_full
-ask_fault unasked.OutOfMemory = no_memory
-
-abbrev pub ask_status : {A : Type 0} → Result A AskFault → ℕ
-ask_status (Ok done) = ok
-ask_status (Err why) = ask_fault why

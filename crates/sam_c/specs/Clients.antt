@@ -38,12 +38,12 @@ use Rattle.sam_client.specs.declared.fault.GoOnFault.{GoOnFault}
 use Rattle.sam_client.specs.declared.replacement.Replaced.{Replaced}
 use Rattle.sam_client.specs.declared.replacement.Replacement.{Replacement}
 use Rattle.sam_c.specs.Calls.{AtHandle}
-use Rattle.sam_c.specs.ClientStatus.{ask_status, event_number, go_on_status}
+use Rattle.sam_c.specs.ClientStatus.{event_number, go_on_status}
 use Rattle.sam_c.specs.LineStatus.{receive_status, tick_number}
 use Rattle.sam_c.specs.Lines.{CopiesWords}
 use Rattle.sam_c.specs.LinkStatus.{call_status, note_status, out_status, put_status}
 use Rattle.sam_c.specs.Links.{handed_or, id_bytes}
-use Rattle.sam_c.specs.OverlayStatus.{replace_status}
+use Rattle.sam_c.specs.OverlayStatus.{ask_status, replace_status}
 use Rattle.sam_c.specs.Overlays.{Handed, HandsBack, NextWaiting, WithText, event_of, told_splice}
 use Rattle.sam_c.specs.Status.{ok, no_memory, is_made, no_handle, no_room, not_text, count_full, nothing, waiting}
 use Rattle.sam_c.specs.Steps.{did_of_term}

@@ -13,13 +13,13 @@ ghost use Rattle.sam_c.specs.Clients.{event_did, heard, overlay_of, splices_afte
 ghost use Rattle.sam_c.specs.Overlays.{handed};
 
 use crate::client_end::ClientEnd;
-use crate::client_status::{ask_status, event_number, go_on_fault};
+use crate::client_status::{event_number, go_on_fault};
 use crate::handle::{SamClient, with_end};
 use crate::link_status::note_status;
 use crate::overlay_calls::{SamSplice, told_splice};
 use crate::overlay_drops::hand_back;
 use crate::overlay_events::{SamEvent, event_of};
-use crate::overlay_status::replace_fault;
+use crate::overlay_status::{ask_status, replace_fault};
 use crate::status::{COUNT_FULL, NO_HANDLE, NO_ROOM, NONE, NOT_TEXT, OK, WAITING};
 use crate::steps::{SamDid, did_of_term};
 use crate::term_events::read_status;

@@ -1,11 +1,10 @@
 //! The numbers by which C knows what a client tells, and why it doesn't go on: include/sulgrevad.h names them.
 
 ghost use Rattle.std.specs.Prelude.{◌≡◌};
-ghost use Rattle.sam_c.specs.ClientStatus.{ask_status, event_number, go_on_fault};
+ghost use Rattle.sam_c.specs.ClientStatus.{event_number, go_on_fault};
 
-use crate::status::{COUNT_FULL, NO_MEMORY, OK, TOO_MANY, UNFINISHED, WAITING, term_stop_status};
+use crate::status::{COUNT_FULL, UNFINISHED, term_stop_status};
 use sam_client::{Event, GoOnFault};
-use sam_overlay::AskFault;
 
 /// Returns the number of what is told.
 pub(crate) fn event_number(event: &Event) -> u32
@@ -28,18 +27,5 @@ pub(crate) fn go_on_fault(why: GoOnFault) -> u32
         GoOnFault::Stopped(why) => term_stop_status(why),
         GoOnFault::CountFull => COUNT_FULL,
         GoOnFault::OutOfMemory => UNFINISHED,
-    }
-}
-
-/// Returns the number of what came of a request.
-pub(crate) fn ask_status<T: Copy>(came: Result<T, AskFault>) -> u32
-    ensures { result ≡ ask_status came }
-{
-    match came {
-        Ok(_) => OK,
-        Err(AskFault::Waiting) => WAITING,
-        Err(AskFault::TooMany) => TOO_MANY,
-        Err(AskFault::CountFull) => COUNT_FULL,
-        Err(AskFault::OutOfMemory) => NO_MEMORY,
     }
 }

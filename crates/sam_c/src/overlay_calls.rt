@@ -3,11 +3,12 @@
 
 ghost use Rattle.std.specs.Prelude.{◌≡◌, length, min, take, drop, ◌++◌};
 ghost use Rattle.sam_c.specs.Hosts.{Freed};
-ghost use Rattle.sam_c.specs.Overlays.{OverlayBrought, OverlayFinished, OverlayMade, OverlayNextRefusal, OverlayNextSplice, OverlayPut};
-ghost use Rattle.sam_c.specs.Overlays.{OverlayReplaced, OverlayReplacedBy, OverlayStepped, OverlayTaken, over_end, told_splice};
+ghost use Rattle.sam_c.specs.Overlays.{OverlayActed, OverlayBrought, OverlayFinished, OverlayMade, OverlayNextRefusal, OverlayNextSplice};
+ghost use Rattle.sam_c.specs.Overlays.{OverlayPut, OverlayReplaced, OverlayReplacedBy, OverlayStepped, OverlayTaken};
+ghost use Rattle.sam_c.specs.Overlays.{did_of_shown, over_end, told_splice};
 
 use crate::handle::{SamOverlay, with_end};
-use crate::overlay_status::{put_fault, put_number, replace_fault, splice_number};
+use crate::overlay_status::{put_fault, put_number, replace_fault, splice_number, turn_number};
 use crate::status::{
     MADE, NO_HANDLE, NO_MEMORY, NONE, OK, WAITING, refusal_status, term_bring_status,
     term_finish_status, term_status,
@@ -15,7 +16,7 @@ use crate::status::{
 use crate::steps::{SamDid, did_of_term};
 use crate::term_events::read_status;
 use sam_runes::read_utf8;
-use sam_shown::{ShownEnd, Splice};
+use sam_shown::{ShownEnd, ShownStep, Splice};
 use std::alloc::Global;
 
 /// A change of the shown text of a file: `sam_splice` of include/sulgrevad.h.
@@ -61,20 +62,30 @@ pub extern "C" fn sam_overlay_free(overlay: &mut SamOverlay, alloc: Global) -> u
 
 /// Takes bytes of the host's frames, in whatever pieces they come: the frames that are whole with them wait for `sam_overlay_step`.
 ///
-/// Returns `SAM_OK`, or in this order `SAM_NO_HANDLE`; what [`Overlay::bring`](sam_overlay::Overlay::bring) answers: why the terminal has
-/// stopped, `SAM_WAITING`, `SAM_COUNT_FULL`, `SAM_NO_MEMORY`. After an error the overlay is as it was.
+/// Returns `SAM_OK`, or in this order `SAM_NO_HANDLE`; what [`OrderedOverlay::bring`](sam_overlay::OrderedOverlay::bring) answers: why the
+/// terminal has stopped, `SAM_WAITING`, `SAM_COUNT_FULL`, `SAM_NO_MEMORY`. After an error the overlay is as it was.
 #[unsafe(no_mangle)]
 pub extern "C" fn sam_overlay_bring(overlay: &mut SamOverlay, bytes: &[u8], alloc: Global) -> u32
     ensures { OverlayBrought overlay.old.held.end bytes.now result overlay.new.held.end }
 {
-    with_end!(overlay alloc mut end { term_bring_status(end.overlay.bring(bytes)) })
+    with_end!(overlay alloc mut end { term_bring_status(end.ordered.bring(bytes)) })
+}
+
+/// Returns what a step did, as C has it, with the number of the request that acted or was refused.
+fn did_of_shown(shown: ShownStep) -> SamDid
+    ensures { result ≡ did_of_shown shown }
+{
+    SamDid {
+        request: shown.request,
+        ..did_of_term(shown.step)
+    }
 }
 
 /// Goes on by one step with what waits, and hands out what the terminal did. `sam_overlay_next_splice` then hands out how what is shown
 /// changed.
 ///
 /// Returns `SAM_OK`, or in this order `SAM_NO_HANDLE`; `SAM_WAITING` if splices of an earlier step are left; what
-/// [`Overlay::step`](sam_overlay::Overlay::step) answers: why the terminal has stopped, at this call or before, or `SAM_UNFINISHED` if
+/// [`ShownEnd::step`](sam_shown::ShownEnd::step) answers: why the terminal has stopped, at this call or before, or `SAM_UNFINISHED` if
 /// memory was refused and nothing has changed.
 #[unsafe(no_mangle)]
 pub extern "C" fn sam_overlay_step(overlay: &mut SamOverlay, did: &mut SamDid, alloc: Global) -> u32
@@ -84,7 +95,7 @@ pub extern "C" fn sam_overlay_step(overlay: &mut SamOverlay, did: &mut SamDid, a
         if end.splices.is_empty() {
             match end.step() {
                 Ok(step) => {
-                    *did = did_of_term(step);
+                    *did = did_of_shown(step);
                     OK
                 }
                 Err(why) => term_status(Err(why)),
@@ -141,7 +152,7 @@ fn replace(
         if end.splices.is_empty() {
             match end.replace(tag, range.0, range.1, runes) {
                 Ok(()) => OK,
-                Err(why) => replace_fault(end.overlay.end().stopped(), why),
+                Err(why) => replace_fault(end.overlay().end().stopped(), why),
             }
         } else {
             WAITING
@@ -153,7 +164,7 @@ fn replace(
 /// `sam_overlay_put_next` puts it.
 ///
 /// Returns `SAM_OK`, or in this order `SAM_NO_HANDLE`; `SAM_NOT_TEXT` if the text is not UTF-8, and `SAM_NO_MEMORY` if there is no memory
-/// for its runes; `SAM_WAITING` if splices of the last step are left; what [`Overlay::replace`](sam_overlay::Overlay::replace) answers, by
+/// for its runes; `SAM_WAITING` if splices of the last step are left; what [`ShownEnd::replace`](sam_shown::ShownEnd::replace) answers, by
 /// the numbers `SAM_REFUSAL..`. After an error the overlay is as it was.
 #[unsafe(no_mangle)]
 pub extern "C" fn sam_overlay_replace(
@@ -175,10 +186,34 @@ pub extern "C" fn sam_overlay_replace(
     }
 }
 
-/// Puts the next edit of what waits over a file as an event, if it can act at once, and hands out what became of it.
+/// Has the oldest request act, if all edits before it are put and it can act at once, and hands out what became of it.
 ///
-/// Returns `SAM_OK`, or in this order `SAM_NO_HANDLE`; what [`Overlay::put_next`](sam_overlay::Overlay::put_next) answers: why the terminal
-/// has stopped, `SAM_REFUSAL_TOO_LONG`, `SAM_COUNT_FULL`, `SAM_NO_MEMORY`. After an error the overlay is as it was.
+/// Returns `SAM_OK`, or in this order `SAM_NO_HANDLE`; what [`OrderedOverlay::act_next`](sam_overlay::OrderedOverlay::act_next) answers:
+/// why the terminal has stopped, `SAM_COUNT_FULL`, `SAM_NO_MEMORY`. After an error the overlay is as it was.
+#[unsafe(no_mangle)]
+pub extern "C" fn sam_overlay_act_next(
+    overlay: &mut SamOverlay,
+    turn: &mut u32,
+    alloc: Global,
+) -> u32
+    ensures { OverlayActed overlay.old.held.end turn.old result turn.new overlay.new.held.end }
+{
+    with_end!(overlay alloc mut end {
+        match end.ordered.act_next() {
+            Ok(came) => {
+                *turn = turn_number(came);
+                OK
+            }
+            Err(why) => put_fault(why),
+        }
+    })
+}
+
+/// Puts the next edit of what waits over a file as an event, if it can act at once and no request that concerns the file stands before it,
+/// and hands out what became of it.
+///
+/// Returns `SAM_OK`, or in this order `SAM_NO_HANDLE`; what [`OrderedOverlay::put_next`](sam_overlay::OrderedOverlay::put_next) answers:
+/// why the terminal has stopped, `SAM_REFUSAL_TOO_LONG`, `SAM_COUNT_FULL`, `SAM_NO_MEMORY`. After an error the overlay is as it was.
 #[unsafe(no_mangle)]
 pub extern "C" fn sam_overlay_put_next(
     overlay: &mut SamOverlay,
@@ -189,7 +224,7 @@ pub extern "C" fn sam_overlay_put_next(
     ensures { OverlayPut overlay.old.held.end tag put.old result put.new overlay.new.held.end }
 {
     with_end!(overlay alloc mut end {
-        match end.overlay.put_next(tag) {
+        match end.ordered.put_next(tag) {
             Ok(came) => {
                 *put = put_number(came);
                 OK
@@ -206,21 +241,21 @@ pub extern "C" fn sam_overlay_finish(overlay: &mut SamOverlay, alloc: Global) ->
     ensures told { OverlayFinished overlay.old.held.end result }
     ensures kept { overlay.new.held.end ≡ overlay.old.held.end }
 {
-    with_end!(overlay alloc end { term_finish_status(end.overlay.end().finish()) })
+    with_end!(overlay alloc end { term_finish_status(end.overlay().end().finish()) })
 }
 
 /// Moves the first pending bytes of an end into the buffer, as many as it has room for, and returns how many.
 fn take_out(end: &mut ShownEnd, into: &mut [u8]) -> usize
-    ensures count { result ≡ min (length end.old.overlay.end.pending_bytes) (length into.old) }
-    ensures bytes { into.new ≡ take result end.old.overlay.end.pending_bytes ++ drop result into.old }
-    ensures rest { end.new ≡ over_end end.old (record end.old.overlay.end {
-      pending_bytes = drop result end.old.overlay.end.pending_bytes;
+    ensures count { result ≡ min (length end.old.ordered.overlay.end.pending_bytes) (length into.old) }
+    ensures bytes { into.new ≡ take result end.old.ordered.overlay.end.pending_bytes ++ drop result into.old }
+    ensures rest { end.new ≡ over_end end.old (record end.old.ordered.overlay.end {
+      pending_bytes = drop result end.old.ordered.overlay.end.pending_bytes;
     }) }
 {
-    let pending = end.overlay.end().pending_bytes();
+    let pending = end.overlay().end().pending_bytes();
     let count = pending.len().min(into.len());
     into[..count].copy_from_slice(&pending[..count]);
-    end.overlay.consume(count);
+    end.ordered.consume(count);
     count
 }
 
@@ -250,7 +285,7 @@ pub extern "C" fn sam_overlay_next_refusal(
     ensures { OverlayNextRefusal overlay.old.held.end (event.old, why.old) result (event.new, why.new) overlay.new.held.end }
 {
     with_end!(overlay alloc mut end {
-        match end.overlay.next_refusal() {
+        match end.ordered.next_refusal() {
             Some(refused) => {
                 *event = refused.0;
                 *why = refusal_status(refused.1);

@@ -66,10 +66,10 @@ fn take_back(
     into: &mut [u8],
     len: &mut usize,
 ) -> u32
-    requires { 4 * waiting_at end.old.overlay tag ≤ length into.old }
+    requires { 4 * waiting_at end.old.ordered.overlay tag ≤ length into.old }
     ensures { TakesBack end.old tag (handed splice.old into.old len.old) result (handed splice.new into.new len.new) end.new }
 {
-    let came = end.overlay.drop_next(tag);
+    let came = end.ordered.drop_next(tag);
     hand_back(tag, came, splice, into, len)
 }
 
@@ -94,7 +94,7 @@ pub extern "C" fn sam_overlay_drop_next(
     with_end!(overlay alloc mut end {
         if !end.splices.is_empty() {
             WAITING
-        } else if into.len() < end.overlay.waiting(tag) as usize * 4 {
+        } else if into.len() < end.overlay().waiting(tag) as usize * 4 {
             NO_ROOM
         } else {
             take_back(&mut end, tag, splice, into, len)

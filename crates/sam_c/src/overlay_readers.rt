@@ -78,10 +78,10 @@ pub extern "C" fn sam_overlay_state(
     state: &mut SamTermState,
     alloc: Global,
 ) -> u32
-    ensures told { Reports overlay.old.held.end result state.old state.new (λ e. term_state e.overlay.end) }
+    ensures told { Reports overlay.old.held.end result state.old state.new (λ e. term_state e.ordered.overlay.end) }
     ensures kept { overlay.new.held.end ≡ overlay.old.held.end }
 {
-    with_end!(overlay alloc end { *state = state_of(end.overlay.end()); OK })
+    with_end!(overlay alloc end { *state = state_of(end.overlay().end()); OK })
 }
 
 /// Hands out what the terminal knows of a tag, in one call. Length, dot and view are those of what is loaded, without the edits that wait.
@@ -92,10 +92,10 @@ pub extern "C" fn sam_overlay_file(
     file: &mut SamTermFile,
     alloc: Global,
 ) -> u32
-    ensures told { Reports overlay.old.held.end result file.old file.new (λ e. file_state e.overlay.end tag) }
+    ensures told { Reports overlay.old.held.end result file.old file.new (λ e. file_state e.ordered.overlay.end tag) }
     ensures kept { overlay.new.held.end ≡ overlay.old.held.end }
 {
-    with_end!(overlay alloc end { *file = file_of(end.overlay.end(), tag); OK })
+    with_end!(overlay alloc end { *file = file_of(end.overlay().end(), tag); OK })
 }
 
 /// Puts the name of a known file into the buffer in UTF-8, as many whole runes as have room, and hands out how many bytes. `SAM_NONE` if
@@ -109,21 +109,21 @@ pub extern "C" fn sam_overlay_name(
     alloc: Global,
 ) -> u32
     ensures told { ReportsName overlay.old.held.end result into.old into.new len.old len.new
-        (λ e. option_map (λ f. f.name) (known_of e.overlay.end tag)) }
+        (λ e. option_map (λ f. f.name) (known_of e.ordered.overlay.end tag)) }
     ensures kept { overlay.new.held.end ≡ overlay.old.held.end }
 {
-    with_end!(overlay alloc end { tell_file_name(end.overlay.end(), tag, into, len) })
+    with_end!(overlay alloc end { tell_file_name(end.overlay().end(), tag, into, len) })
 }
 
 /// Hands out the tag of the file that the host named last in its answer to a change of the work file or to a new file. `SAM_NONE` if it
 /// named none.
 #[unsafe(no_mangle)]
 pub extern "C" fn sam_overlay_current(overlay: &mut SamOverlay, tag: &mut u16, alloc: Global) -> u32
-    ensures told { ReportsSome overlay.old.held.end result tag.old tag.new (λ e. e.overlay.end.term.current) }
+    ensures told { ReportsSome overlay.old.held.end result tag.old tag.new (λ e. e.ordered.overlay.end.term.current) }
     ensures kept { overlay.new.held.end ≡ overlay.old.held.end }
 {
     with_end!(overlay alloc end {
-        tell_some(end.overlay.end().term().current(), tag)
+        tell_some(end.overlay().end().term().current(), tag)
     })
 }
 
@@ -135,11 +135,12 @@ pub extern "C" fn sam_overlay_pattern(
     len: &mut usize,
     alloc: Global,
 ) -> u32
-    ensures told { ReportsName overlay.old.held.end result into.old into.new len.old len.new (λ e. Some e.overlay.end.term.pattern) }
+    ensures told { ReportsName overlay.old.held.end result into.old into.new len.old len.new
+        (λ e. Some e.ordered.overlay.end.term.pattern) }
     ensures kept { overlay.new.held.end ≡ overlay.old.held.end }
 {
     with_end!(overlay alloc end {
-        tell_name(end.overlay.end().term().pattern(), into, len)
+        tell_name(end.overlay().end().term().pattern(), into, len)
     })
 }
 
@@ -155,11 +156,11 @@ pub extern "C" fn sam_overlay_snarfed(
     alloc: Global,
 ) -> u32
     ensures told { ReportsText overlay.old.held.end result (written into.old bytes.old runes.old) (written into.new bytes.new runes.new)
-        (λ e. Some (drop place (countable e.overlay.end.term.snarf))) }
+        (λ e. Some (drop place (countable e.ordered.overlay.end.term.snarf))) }
     ensures kept { overlay.new.held.end ≡ overlay.old.held.end }
 {
     with_end!(overlay alloc end {
-        tell_text(runes_from(countable(end.overlay.end().term().snarf()), place), into, bytes, runes)
+        tell_text(runes_from(countable(end.overlay().end().term().snarf()), place), into, bytes, runes)
     })
 }
 
@@ -171,11 +172,11 @@ pub extern "C" fn sam_overlay_fault_place(
     place: &mut u64,
     alloc: Global,
 ) -> u32
-    ensures told { ReportsSome overlay.old.held.end result place.old place.new (λ e. fault_place e.overlay.end) }
+    ensures told { ReportsSome overlay.old.held.end result place.old place.new (λ e. fault_place e.ordered.overlay.end) }
     ensures kept { overlay.new.held.end ≡ overlay.old.held.end }
 {
     with_end!(overlay alloc end {
-        tell_some(end.overlay.end().fault_place(), place)
+        tell_some(end.overlay().end().fault_place(), place)
     })
 }
 
@@ -186,10 +187,10 @@ pub extern "C" fn sam_overlay_pending(
     len: &mut usize,
     alloc: Global,
 ) -> u32
-    ensures told { Reports overlay.old.held.end result len.old len.new (λ e. length e.overlay.end.pending_bytes) }
+    ensures told { Reports overlay.old.held.end result len.old len.new (λ e. length e.ordered.overlay.end.pending_bytes) }
     ensures kept { overlay.new.held.end ≡ overlay.old.held.end }
 {
-    with_end!(overlay alloc end { *len = end.overlay.end().pending(); OK })
+    with_end!(overlay alloc end { *len = end.overlay().end().pending(); OK })
 }
 
 /// Hands out how many runes of a file wait, those that a later edit removes among them: 0 if the file is not open.
@@ -200,10 +201,10 @@ pub extern "C" fn sam_overlay_waiting(
     runes: &mut u32,
     alloc: Global,
 ) -> u32
-    ensures told { Reports overlay.old.held.end result runes.old runes.new (λ e. waiting_at e.overlay tag) }
+    ensures told { Reports overlay.old.held.end result runes.old runes.new (λ e. waiting_at e.ordered.overlay tag) }
     ensures kept { overlay.new.held.end ≡ overlay.old.held.end }
 {
-    with_end!(overlay alloc end { *runes = end.overlay.waiting(tag); OK })
+    with_end!(overlay alloc end { *runes = end.overlay().waiting(tag); OK })
 }
 
 /// Hands out how many runes and gaps are shown of an open file. `SAM_NONE` if it is not open.
@@ -214,11 +215,11 @@ pub extern "C" fn sam_overlay_len(
     runes: &mut u32,
     alloc: Global,
 ) -> u32
-    ensures told { ReportsSome overlay.old.held.end result runes.old runes.new (λ e. option_map length (text_of e.overlay tag)) }
+    ensures told { ReportsSome overlay.old.held.end result runes.old runes.new (λ e. option_map length (text_of e.ordered.overlay tag)) }
     ensures kept { overlay.new.held.end ≡ overlay.old.held.end }
 {
     with_end!(overlay alloc end {
-        tell_some(end.overlay.shown_len(tag), runes)
+        tell_some(end.overlay().shown_len(tag), runes)
     })
 }
 
@@ -235,10 +236,10 @@ pub extern "C" fn sam_overlay_text(
     alloc: Global,
 ) -> u32
     ensures told { ReportsText overlay.old.held.end result (written into.old bytes.old runes.old) (written into.new bytes.new runes.new)
-        (λ e. option_map (λ text. front_runes (drop place text)) (text_of e.overlay tag)) }
+        (λ e. option_map (λ text. front_runes (drop place text)) (text_of e.ordered.overlay tag)) }
     ensures kept { overlay.new.held.end ≡ overlay.old.held.end }
 {
-    with_end!(overlay alloc end { tell_shown(&end.overlay, tag, place, into, bytes, runes) })
+    with_end!(overlay alloc end { tell_shown(end.overlay(), tag, place, into, bytes, runes) })
 }
 
 /// Puts what is shown of an open file from a place on into the buffer as numbers, as many runes and gaps as there are and have room, with
@@ -252,10 +253,11 @@ pub extern "C" fn sam_overlay_read(
     count: &mut u32,
     alloc: Global,
 ) -> u32
-    ensures told { ReportsCells overlay.old.held.end result into.old into.new count.old count.new place (λ e. text_of e.overlay tag) }
+    ensures told { ReportsCells overlay.old.held.end result into.old into.new count.old count.new place
+        (λ e. text_of e.ordered.overlay tag) }
     ensures kept { overlay.new.held.end ≡ overlay.old.held.end }
 {
-    with_end!(overlay alloc end { read_shown(&end.overlay, tag, place, into, count) })
+    with_end!(overlay alloc end { read_shown(end.overlay(), tag, place, into, count) })
 }
 
 /// Hands out the first place of what is shown of an open file, at or after `place`, whose rune is not loaded. `SAM_NONE` if the file is not
@@ -268,11 +270,11 @@ pub extern "C" fn sam_overlay_first_gap(
     gap: &mut u32,
     alloc: Global,
 ) -> u32
-    ensures told { ReportsSome overlay.old.held.end result gap.old gap.new (λ e. gap_of e.overlay tag place) }
+    ensures told { ReportsSome overlay.old.held.end result gap.old gap.new (λ e. gap_of e.ordered.overlay tag place) }
     ensures kept { overlay.new.held.end ≡ overlay.old.held.end }
 {
     with_end!(overlay alloc end {
-        tell_some(end.overlay.first_gap(tag, place), gap)
+        tell_some(end.overlay().first_gap(tag, place), gap)
     })
 }
 
@@ -288,6 +290,19 @@ pub extern "C" fn sam_overlay_next_waiting(
     ensures kept { overlay.new.held.end ≡ overlay.old.held.end }
 {
     with_end!(overlay alloc end {
-        tell_some(end.overlay.next_waiting(from), tag)
+        tell_some(end.overlay().next_waiting(from), tag)
     })
+}
+
+/// Hands out how many requests wait.
+#[unsafe(no_mangle)]
+pub extern "C" fn sam_overlay_requests(
+    overlay: &mut SamOverlay,
+    count: &mut usize,
+    alloc: Global,
+) -> u32
+    ensures told { Reports overlay.old.held.end result count.old count.new (λ e. length e.ordered.queue) }
+    ensures kept { overlay.new.held.end ≡ overlay.old.held.end }
+{
+    with_end!(overlay alloc end { *count = end.ordered.waiting(); OK })
 }

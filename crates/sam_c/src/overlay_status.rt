@@ -1,11 +1,13 @@
 //! The numbers by which C knows what came of a call of an overlay: include/sulgrevad.h names them.
 
 ghost use Rattle.std.specs.Prelude.{◌≡◌};
-ghost use Rattle.sam_c.specs.OverlayStatus.{put_fault, put_number, replace_fault, splice_number, stop_status};
+ghost use Rattle.sam_c.specs.OverlayStatus.{ask_status, put_fault, put_number, replace_fault, splice_number, stop_status, turn_number};
 
-use crate::status::{COUNT_FULL, NO_MEMORY, OK, refusal_status, term_stop_status};
+use crate::status::{
+    COUNT_FULL, NO_MEMORY, OK, TOO_MANY, WAITING, refusal_status, term_stop_status,
+};
 use sam_endpoint::TermStop;
-use sam_overlay::{Put, PutFault, ReplaceFault};
+use sam_overlay::{AskFault, Put, PutFault, ReplaceFault, Turn};
 use sam_shown::SpliceKind;
 use sam_term::Refusal;
 
@@ -55,6 +57,30 @@ pub(crate) fn put_number(put: Put) -> u32
         Put::Nothing => 0,
         Put::NotFree => 1,
         Put::Edit => 2,
+    }
+}
+
+/// Returns the number of what came of a request.
+pub(crate) fn ask_status<T: Copy>(came: Result<T, AskFault>) -> u32
+    ensures { result ≡ ask_status came }
+{
+    match came {
+        Ok(_) => OK,
+        Err(AskFault::Waiting) => WAITING,
+        Err(AskFault::TooMany) => TOO_MANY,
+        Err(AskFault::CountFull) => COUNT_FULL,
+        Err(AskFault::OutOfMemory) => NO_MEMORY,
+    }
+}
+
+/// Returns the number of what became of the oldest request that was to act.
+pub(crate) fn turn_number(turn: Turn) -> u32
+    ensures { result ≡ turn_number turn }
+{
+    match turn {
+        Turn::Nothing => 0,
+        Turn::NotYet => 1,
+        Turn::Request => 2,
     }
 }
 

@@ -4,7 +4,7 @@ ghost use Rattle.std.specs.Prelude.{◌≡◌, ◌≢◌, ◌⊎◌, ◌↔◌, 
 ghost use Rattle.sam_runes.specs.Checks.{first_of_checks};
 ghost use Rattle.sam_pending.specs.Cells.{IsTakenBack};
 ghost use Rattle.sam_endpoint.specs.TermStepping.{Steps};
-ghost use Rattle.sam_overlay.specs.Calls.{Brings, CellsGo, DropsUpTo, Keeps, KeepsTexts, PutsUpTo, cells_at, shown_at};
+ghost use Rattle.sam_overlay.specs.Calls.{Asks, Brings, CellsGo, DropsUpTo, Keeps, KeepsTexts, PutsUpTo, cells_at, shown_at};
 ghost use Rattle.sam_overlay.specs.Ordered.{ActsNext, IsAsked, NoneFinds, closing_group, most_waiting_requests, new_ordered, ordered_checks, queue_after, shared_with};
 ghost use Rattle.sam_overlay.specs.Outcomes.{Leads, Replaces};
 ghost use Rattle.sam_overlay.specs.Overlays.{StopsOnly, end_step, is_request, told_at};
@@ -247,6 +247,16 @@ impl OrderedOverlay {
         ensures queue { self.new.queue ≡ self.old.queue }
     {
         self.overlay.bring(piece)
+    }
+
+    /// Takes an event of the user beside the requests that wait, as `Overlay::bring_event` does: it acts before them, and they stay. Errors
+    /// are those of that call, in its order.
+    pub fn bring_event(&mut self, event: UserEvent) -> Result<(), BringFault<TermStop>>
+        requires { IsTrue (is_request event) }
+        ensures asks { Asks self.old.overlay event result self.new.overlay }
+        ensures queue { self.new.queue ≡ self.old.queue }
+    {
+        self.overlay.bring_event(event)
     }
 
     /// Takes out the first `count` bytes for the host, or all if there are fewer, as `Overlay::consume` does. All else stays.
