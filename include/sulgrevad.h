@@ -363,9 +363,9 @@ enum sam_kind {
 
 /* The result of a step. A field that is not of its step is 0, and so is the tag if the message, frame or event names no file. */
 struct sam_did {
-    uint64_t event; /* the event's number, counted from 1 over all event calls that were taken */
-    uint64_t request; /* of a client: the request's number, as sam_client_ask handed it out; 0 if no request did this */
-    size_t count;   /* the number of messages that the host took: 1 for SAM_STEP_ANSWERED, 1 or more for SAM_STEP_EDITED */
+    uint64_t event;   /* the event's number, counted from 1 over all event calls that were taken */
+    uint64_t request; /* the request's number, as sam_client_ask or sam_overlay_ask handed it out; 0 if no request did this */
+    size_t count;     /* the number of messages that the host took: 1 for SAM_STEP_ANSWERED, 1 or more for SAM_STEP_EDITED */
     sam_step step;
     sam_status why; /* the reason why the event was refused: SAM_REFUSAL.. */
     uint32_t start; /* the change: from this place on, `gone` runes or gaps of the old text gave way to `came` of the new one */
@@ -921,9 +921,12 @@ SAM_MUST_USE sam_status sam_term_snarf_len(sam_term *term, uint32_t *runes);
  *     sam_overlay_bring(&overlay, ..)              bytes of the host
  *     sam_overlay_step(&overlay, &did)             a frame is received, or an event acts
  *     sam_overlay_next_splice(&overlay, &splice)   each goes into the editor's own text, until SAM_NONE
+ *     sam_overlay_ask(&overlay, &event, ..)        the user asked for something else: a write, a search, a command line
+ *     sam_overlay_act_next(&overlay, &turn)        the oldest request may act: the next step has it act
  *     sam_overlay_put_next(&overlay, tag, &put)    the file may be free: the next edit that waits is put, and the next step has it act
  *     sam_overlay_take_out(&overlay, ..)           bytes for the host
  *
+ * Requests stand in one order with the edits: so a write saves the text that was shown when it was asked for.
  * Places count runes and gaps of the shown text. So the editor's text is the shown text, if it takes each splice before it tells of an
  * edit, and its places are always right. A replacement makes no splice. No frame takes any of what waits, but one that closes its file.
  * Nothing waits over the command file: typing, cutting and pasting there are events, which are shown once they act.
@@ -983,7 +986,8 @@ enum sam_event_kind {
 };
 typedef enum sam_event_kind sam_event_kind;
 
-/* An event of the user. A field that its kind doesn't name is not read. Its places are those of the terminal's text when it acts. */
+/* An event of the user. A field that its kind doesn't name is not read. Its places are those of the terminal's text when it acts; of a
+ * request, those of the shown text when it is asked for. */
 struct sam_event {
     sam_event_kind kind;
     uint32_t start;
@@ -996,12 +1000,22 @@ typedef struct sam_event sam_event;
 /* What became of an edit that waits. */
 enum sam_put {
     SAM_PUT_NOTHING = 0,  /* nothing waits over the file: what is shown is the terminal's text */
-    SAM_PUT_NOT_FREE = 1, /* it waits on: a lock is held, or frames, events or composed messages come first */
+    SAM_PUT_NOT_FREE = 1, /* it waits on: a lock is held, or frames, events, composed messages or a request come first */
     SAM_PUT_EDIT = 2,     /* it was put, and the next step has it act */
 
     SAM_PUT_WIDTH = 0x7FFFFFFF /* never handed out: it keeps the type at 32 bits under any compiler's options */
 };
 typedef enum sam_put sam_put;
+
+/* What became of the oldest request. */
+enum sam_turn {
+    SAM_TURN_NOTHING = 0, /* none waits */
+    SAM_TURN_NOT_YET = 1, /* it waits on: edits before it are left to put, a lock is in its way, or frames, events or messages come first */
+    SAM_TURN_REQUEST = 2, /* the terminal has it, and the next step has it act */
+
+    SAM_TURN_WIDTH = 0x7FFFFFFF /* never handed out: it keeps the type at 32 bits under any compiler's options */
+};
+typedef enum sam_turn sam_turn;
 
 /* ---- The overlay: making and freeing ---- */
 
@@ -1023,7 +1037,8 @@ SAM_MUST_USE sam_status sam_overlay_bring(sam_overlay *overlay, const uint8_t *b
 
 /* Makes one step with the frames and events that wait, as sam_term_step does, and hands out its result. Its change is that of the
  * terminal's text; that of the shown text is then handed out by sam_overlay_next_splice. By an edit that was put nothing that is shown
- * changes. Refused, in this order, and nothing is handed out then: SAM_WAITING if splices are left; why the terminal has stopped before,
+ * changes. If a request acted or was refused, `request` is its number, as sam_overlay_ask handed it out: each is told once, in their order.
+ * Refused, in this order, and nothing is handed out then: SAM_WAITING if splices are left; why the terminal has stopped before,
  * SAM_STREAM.. or SAM_TERM_REFUSED..; SAM_UNFINISHED if memory is short, and nothing has changed, so make the step again; why the terminal
  * stops at this step: what is shown, and what waits, is as it was. */
 SAM_MUST_USE sam_status sam_overlay_step(sam_overlay *overlay, sam_did *did);
@@ -1046,19 +1061,21 @@ SAM_MUST_USE sam_status sam_overlay_take_out(sam_overlay *overlay, uint8_t *into
 /* ---- The overlay: what the user does ---- */
 
 /* Replaces the shown runes of a file from the place `start` to the place `end` by a text of any length, all or nothing. The new runes stand
- * behind what is shown before `start`. They are shown at once, and wait for sam_overlay_put_next; no lock refuses them. Refused, in this
- * order, and the overlay is then as it was: SAM_NOT_TEXT; SAM_NO_MEMORY if there is no memory for the runes; SAM_WAITING if splices are
- * left; SAM_REFUSAL_EXITED; why the terminal has stopped before, SAM_STREAM.. or SAM_TERM_REFUSED..; SAM_REFUSAL_NO_FILE;
- * SAM_REFUSAL_COMMAND_FILE for tag 0; SAM_REFUSAL_NOT_OPEN; SAM_REFUSAL_BAD_POSITION if `end` is below `start` or after the end of the
- * shown text; SAM_REFUSAL_TOO_LONG if there are runes, and these, the terminal's text and all that waits over it are more than 1,000,000;
- * SAM_NO_MEMORY, also while an edit of the file was put that has not acted: make steps first. */
+ * behind what is shown before `start`. They are shown at once, and wait for sam_overlay_put_next; no lock refuses them, and no request that
+ * was asked for before finds them. Refused, in this order, and the overlay is then as it was: SAM_NOT_TEXT; SAM_NO_MEMORY if there is no
+ * memory for the runes; SAM_WAITING if splices are left; SAM_REFUSAL_EXITED if a request waits that ends the session; SAM_REFUSAL_NOT_OPEN
+ * if one waits that closes the file; SAM_REFUSAL_EXITED if the session is over; why the terminal has stopped before, SAM_STREAM.. or
+ * SAM_TERM_REFUSED..; SAM_REFUSAL_NO_FILE; SAM_REFUSAL_COMMAND_FILE for tag 0; SAM_REFUSAL_NOT_OPEN; SAM_REFUSAL_BAD_POSITION if `end` is
+ * below `start` or after the end of the shown text; SAM_REFUSAL_TOO_LONG if there are runes, and these, the terminal's text and all that
+ * waits over it are more than 1,000,000; SAM_NO_MEMORY, also while an edit of the file was put that has not acted: make steps first. */
 SAM_MUST_USE sam_status sam_overlay_replace(sam_overlay *overlay, uint16_t tag, uint32_t start, uint32_t end, const uint8_t *text,
                                             size_t len);
 
 /* Puts the next edit of those that wait over a file as an event, if it can act at once, and hands out what became of it. The edit is one
- * removal, or one insertion of any length. Call it, and make a step, as long as it hands out SAM_PUT_EDIT. Refused, in this order, and the
- * overlay is then as it was: why the terminal has stopped before, SAM_STREAM.. or SAM_TERM_REFUSED..; SAM_REFUSAL_TOO_LONG if the file
- * would have more than 1,000,000 runes, because the host put more in meanwhile; SAM_COUNT_FULL after 2^64-1 events; SAM_NO_MEMORY. */
+ * removal, or one insertion of any length, and none that stands behind a request of the file or of the command lock. Call it, and make a
+ * step, as long as it hands out SAM_PUT_EDIT. Refused, in this order, and the overlay is then as it was: why the terminal has stopped
+ * before, SAM_STREAM.. or SAM_TERM_REFUSED..; SAM_REFUSAL_TOO_LONG if the file would have more than 1,000,000 runes, because the host put
+ * more in meanwhile; SAM_COUNT_FULL after 2^64-1 events; SAM_NO_MEMORY. */
 SAM_MUST_USE sam_status sam_overlay_put_next(sam_overlay *overlay, uint16_t tag, sam_put *put);
 
 /* Takes back the next insertion that waits over a file, if an edit could act at once and the file has no room for this one: that is where
@@ -1069,11 +1086,30 @@ SAM_MUST_USE sam_status sam_overlay_put_next(sam_overlay *overlay, uint16_t tag,
 SAM_MUST_USE sam_status sam_overlay_drop_next(sam_overlay *overlay, uint16_t tag, sam_splice *splice, uint8_t *into, size_t room,
                                               size_t *len);
 
-/* Takes an event. It waits for sam_overlay_step. The text is that of SAM_EVENT_SET_SNARF and of SAM_EVENT_TYPE_CMD; for other kinds `len`
- * is 0. An event acts on the terminal's text: so put all that waits over its file first. Refused, in this order, and the overlay is then as
- * it was: SAM_NOT_TEXT if the text is not UTF-8; SAM_NO_MEMORY if there is no memory for its runes; SAM_NONE if no event has this kind; why
- * the terminal has stopped before, SAM_STREAM.. or SAM_TERM_REFUSED..; SAM_WAITING as for sam_overlay_bring; SAM_COUNT_FULL after 2^64-1
- * events; SAM_NO_MEMORY. */
+/* Asks for what is no edit: an event (enum sam_event_kind), with its text if it brings one. It stands in one order with the edits: it acts
+ * by sam_overlay_act_next, once all edits before it are put, and finds the text that is shown now, with the host's changes since. A place
+ * that it names moves with that text, as of sam_client_ask. Hands out the number of the request, counted from 1 over those that were taken:
+ * sam_overlay_step tells by it, once, that the request acted or was refused. A write that would find the same text as one that waits is
+ * that one, and has its number. Refused, in this order, and overlay and number are then as they were: SAM_NOT_TEXT if the text is not
+ * UTF-8; SAM_NO_MEMORY if there is no memory for its runes; SAM_NONE if no event has this kind; SAM_COUNT_FULL if 2^64-1 requests were
+ * taken; SAM_WAITING while an edit was put that has not acted: make a step first; SAM_TOO_MANY if 1,000 requests wait; SAM_COUNT_FULL if
+ * 2^32-1 were taken while edits or requests waited; SAM_NO_MEMORY. */
+SAM_MUST_USE sam_status sam_overlay_ask(sam_overlay *overlay, const sam_event *event, const uint8_t *text, size_t len, uint64_t *number);
+
+/* Has the oldest request act, if all edits before it are put and it can act at once, and hands out what became of it: at SAM_TURN_REQUEST
+ * it waits no more, and the next step has it act, or refuses it. A request waits for the edits of its file; one that takes the command lock
+ * for those of all files. Call it before sam_overlay_put_next, and make a step, as long as it hands out SAM_TURN_REQUEST. Its refusals are
+ * those of sam_overlay_put_next, in its order, without SAM_REFUSAL_TOO_LONG. */
+SAM_MUST_USE sam_status sam_overlay_act_next(sam_overlay *overlay, sam_turn *turn);
+
+/* Hands out the number of requests that wait, those not among them that the terminal has. */
+SAM_MUST_USE sam_status sam_overlay_requests(sam_overlay *overlay, size_t *count);
+
+/* Takes an event beside the requests that wait, which stay. It waits for sam_overlay_step. The text is that of SAM_EVENT_SET_SNARF and of
+ * SAM_EVENT_TYPE_CMD; for other kinds `len` is 0. An event acts on the terminal's text: so put all that waits over its file first, or ask
+ * for it by sam_overlay_ask. Refused, in this order, and the overlay is then as it was: SAM_NOT_TEXT if the text is not UTF-8;
+ * SAM_NO_MEMORY if there is no memory for its runes; SAM_NONE if no event has this kind; why the terminal has stopped before, SAM_STREAM..
+ * or SAM_TERM_REFUSED..; SAM_WAITING as for sam_overlay_bring; SAM_COUNT_FULL after 2^64-1 events; SAM_NO_MEMORY. */
 SAM_MUST_USE sam_status sam_overlay_bring_event(sam_overlay *overlay, const sam_event *event, const uint8_t *text, size_t len);
 
 /* Hands out the oldest refused event that was not handed out yet: its number, counted from 1 over all events that were taken and all edits
@@ -1593,8 +1629,7 @@ SAM_MUST_USE sam_status sam_client_put_note(sam_client *client, const uint8_t *b
 
 /* Replaces the shown runes of a file from the place `start` to the place `end` by a text of any length, all or nothing. The new runes stand
  * behind what is shown before `start`. They are shown at once, whatever is locked, and go to the host as the client goes on; no request
- * that was asked for before finds them. Its refusals are those of sam_overlay_replace, in its order; but before its SAM_REFUSAL_EXITED
- * comes that if a request waits that ends the session, and then SAM_REFUSAL_NOT_OPEN if one waits that closes the file. */
+ * that was asked for before finds them. Its refusals are those of sam_overlay_replace, in its order. */
 SAM_MUST_USE sam_status sam_client_replace(sam_client *client, uint16_t tag, uint32_t start, uint32_t end, const uint8_t *text, size_t len);
 
 /* Makes replacements of a file, one after another, each as sam_client_replace does: its places are those of the text that the ones before

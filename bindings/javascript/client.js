@@ -3,7 +3,7 @@ import { PREFIX, make, one } from "./held.js";
 import { Clocked } from "./line.js";
 import { MOST_NOTE } from "./link.js";
 import { bytesOut, result, short, size, space, truth, u32, u64 } from "./module.js";
-import { Shown, makeOfEvent } from "./overlay.js";
+import { Shown } from "./overlay.js";
 import { Texts, terminalStep } from "./sides.js";
 
 const TOLD = ["idle", "busy", "stepped", "refused", "note"]; // enum sam_client_event of sulgrevad.h
@@ -35,20 +35,11 @@ export class Client extends Clocked(Shown(Texts)) {
     return bytesOut(u64(0)).slice();
   }
 
-  ask(kind, fields) {
-    makeOfEvent(this, "ask", kind, fields, result(0));
-    return u64(0);
-  }
-
   get hasAll() {
     return one(this, "has_all", truth);
   }
 
   isUnsaved(tag) {
     return one(this, "is_unsaved", truth, short(tag));
-  }
-
-  get requests() {
-    return one(this, "requests", u64);
   }
 }

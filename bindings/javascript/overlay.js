@@ -7,6 +7,7 @@ import { Status, errorOf } from "./status.js";
 const EVENT_SIZE = 16; // bytes of a sam_event
 const SPLICES = [undefined, "came", "went", "filled", "emptied"]; // enum sam_splice_kind of sulgrevad.h
 const PUTS = ["nothing", "not free", "edit"]; // enum sam_put of sulgrevad.h
+const TURNS = ["nothing", "not yet", "request"]; // enum sam_turn of sulgrevad.h
 const AT_REST = ["idle", "locked"];
 
 /** The events that an overlay or a client takes (enum sam_event_kind of sulgrevad.h). */
@@ -38,7 +39,7 @@ export const EventKind = Object.freeze({
 });
 
 /** Makes a call that takes an event and its text, and the places of its `results`. */
-export function makeOfEvent(side, name, kind, { tag = 0, start = 0, number = 0, version = 0, text = "" } = {}, ...results) {
+function makeOfEvent(side, name, kind, { tag = 0, start = 0, number = 0, version = 0, text = "" } = {}, ...results) {
   const record = new DataView(new ArrayBuffer(EVENT_SIZE));
   [kind, start, number].forEach((word, at) => record.setUint32(4 * at, long(word), true));
   record.setUint16(12, short(tag), true);
@@ -50,11 +51,20 @@ export function makeOfEvent(side, name, kind, { tag = 0, start = 0, number = 0, 
   });
 }
 
-/** Adds to a class what overlay and client share: the shown texts, and how they change. */
+/** Adds to a class what overlay and client share: the shown texts, how they change, and what is asked for beside edits. */
 export const Shown = (Base) =>
   class extends Screened(Base) {
     replace(tag, start, end, text) {
       makeOfText(this, "replace", [short(tag), long(start), long(end)], text);
+    }
+
+    ask(kind, fields) {
+      makeOfEvent(this, "ask", kind, fields, result(0));
+      return u64(0);
+    }
+
+    get requests() {
+      return one(this, "requests", u64);
     }
 
     dropNext(tag) {
@@ -102,12 +112,16 @@ export class Overlay extends Stepping(Shown(Streams)) {
     return PUTS[one(this, "put_next", u32, short(tag))];
   }
 
+  actNext() {
+    return TURNS[one(this, "act_next", u32)];
+  }
+
   bringEvent(kind, fields) {
     makeOfEvent(this, "bring_event", kind, fields);
   }
 
   *goOn(...tags) {
-    for (let puts = true; puts; puts = tags.some((tag) => this.putNext(tag) === "edit")) {
+    for (let moves = true; moves; moves = this.actNext() === "request" || tags.some((tag) => this.putNext(tag) === "edit")) {
       yield* this.splices();
       while (!AT_REST.includes(this.step().step)) yield* this.splices();
     }

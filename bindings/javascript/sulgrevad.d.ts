@@ -328,7 +328,8 @@ export type FileState = {
 };
 /** The result of a step of a terminal: `event` is the number of an event that acted or was refused, and `why` the status of a refusal.
  * `loads` says whether a frame loaded runes in the place of gaps: more of the text is known then, and nothing changed. `request` is the
- * number of the request of a client that acted or was refused, as `ask` returned it. A field that is not of its step is 0 or false. */
+ * number of the request of a client or an overlay that acted or was refused, as `ask` returned it. A field that is not of its step is 0 or
+ * false. */
 export type TerminalStep = {
   step: "idle" | "locked" | "wrote" | "received" | "acted" | "refused";
   kind: number;
@@ -559,6 +560,16 @@ export type Dropped = { tag: number; place: number; count: number; text: string 
 
 /** What overlay and client share: the shown texts, how they change, and what can be read of the terminal. */
 declare class Shown extends Held {
+  /** Asks for what is no edit, by its number in EventKind. It stands in one order with the edits: it acts as a client goes on, or by
+   * `actNext` of an overlay, once all edits before it are put, and finds the text that is shown now, with the host's changes since. The
+   * fields are those of `bringEvent` of an overlay. Returns the number of the request, by which `nextEvent` of a client or `step` of an
+   * overlay tells once that it acted or was refused; a write that would find the same text as one that waits is that one, and has its
+   * number. Throws, in this order, and all is then as it was: NotText; NoMemory; Missing if no event has this kind; a SamError with the
+   * code WAITING while an edit was put that has not acted: go on first; one with the code TOO_MANY if 1,000 requests wait; CountFull;
+   * NoMemory. */
+  ask(kind: number, fields?: EventFields): number;
+  /** Returns the number of requests that wait, those not among them that the terminal has. */
+  readonly requests: number;
   /** Returns the next change of the shown text by the last step; null if none is left. */
   nextSplice(): Splice | null;
   /** Yields the changes of the shown text by the last step that were not handed out yet. */
@@ -614,22 +625,29 @@ declare class Shown extends Held {
  * and its places are always right. A replacement makes no splice. */
 export declare class Overlay extends Shown {
   /** Replaces the shown runes from the place `start` to the place `end` by a text of any length, all or nothing. The new runes stand behind
-   * what is shown before `start`. They are shown at once, and wait for `putNext`; no lock refuses them. Throws, in this order, and the
-   * overlay is then as it was: NotText; NoMemory; a SamError with the code WAITING if splices are left; EditRefused (REFUSAL_EXITED); the
-   * fault by which the terminal has stopped; EditRefused (REFUSAL_NO_FILE, REFUSAL_COMMAND_FILE for tag 0, REFUSAL_NOT_OPEN,
-   * REFUSAL_BAD_POSITION for a range that the shown text doesn't have, REFUSAL_TOO_LONG if these runes, the terminal's text and all that
-   * waits over it are more than 1,000,000); NoMemory, also while an edit of the file was put that has not acted. */
+   * what is shown before `start`. They are shown at once, and wait for `putNext`; no lock refuses them, and no request that was asked for
+   * before finds them. Throws, in this order, and the overlay is then as it was: NotText; NoMemory; a SamError with the code WAITING if
+   * splices are left; EditRefused (REFUSAL_EXITED) if a request waits that ends the session, (REFUSAL_NOT_OPEN) if one waits that closes
+   * the file, (REFUSAL_EXITED) if the session is over; the fault by which the terminal has stopped; EditRefused (REFUSAL_NO_FILE,
+   * REFUSAL_COMMAND_FILE for tag 0, REFUSAL_NOT_OPEN, REFUSAL_BAD_POSITION for a range that the shown text doesn't have, REFUSAL_TOO_LONG
+   * if these runes, the terminal's text and all that waits over it are more than 1,000,000); NoMemory, also while an edit of the file was
+   * put that has not acted. */
   replace(tag: number, start: number, end: number, text: Text): void;
-  /** Puts the next edit of those that wait over a file as an event, if it can act at once, and returns what became of it: `nothing` if none
-   * waits; `not free` if it waits on; `edit` if it was put: the next step has it act. Throws, in this order, and the overlay is then as it
-   * was: the fault by which the terminal has stopped; EditRefused (REFUSAL_TOO_LONG) if the file would have more than 1,000,000 runes,
-   * because the host put more in meanwhile; CountFull; NoMemory. */
+  /** Puts the next edit of those that wait over a file as an event, if it can act at once and stands behind no request of the file or of
+   * the command lock, and returns what became of it: `nothing` if none waits; `not free` if it waits on; `edit` if it was put: the next
+   * step has it act. Throws, in this order, and the overlay is then as it was: the fault by which the terminal has stopped; EditRefused
+   * (REFUSAL_TOO_LONG) if the file would have more than 1,000,000 runes, because the host put more in meanwhile; CountFull; NoMemory. */
   putNext(tag: number): "nothing" | "not free" | "edit";
-  /** Takes an event, by its number in EventKind; `step` has it act. `start` and `number` are the range of SELECT; for DCLICK, VIEW and LOAD
-   * the place and how many runes; for SCROLL `number` is how many lines. `version` is that of OFFER_VERSION, `text` that of SET_SNARF and
-   * TYPE_CMD. An event acts on the terminal's text, so put all that waits over its file first. Throws, in this order, and the overlay is
-   * then as it was: NotText; NoMemory; Missing if no event has this kind; the fault by which the terminal has stopped; a SamError with the
-   * code WAITING until a step was idle or locked, and while an edit was put that has not acted; CountFull; NoMemory. */
+  /** Has the oldest request act, if all edits before it are put and it can act at once, and returns what became of it: `nothing` if none
+   * waits; `not yet` if it waits on; `request` if the terminal has it: the next step has it act. Call it before `putNext`. Throws, in this
+   * order, and the overlay is then as it was: the fault by which the terminal has stopped; CountFull; NoMemory. */
+  actNext(): "nothing" | "not yet" | "request";
+  /** Takes an event beside the requests that wait, by its number in EventKind; `step` has it act. `start` and `number` are the range of
+   * SELECT; for DCLICK, VIEW and LOAD the place and how many runes; for SCROLL `number` is how many lines. `version` is that of
+   * OFFER_VERSION, `text` that of SET_SNARF and TYPE_CMD. An event acts on the terminal's text, so put all that waits over its file first,
+   * or `ask` for it. Throws, in this order, and the overlay is then as it was: NotText; NoMemory; Missing if no event has this kind; the
+   * fault by which the terminal has stopped; a SamError with the code WAITING until a step was idle or locked, and while an edit was put
+   * that has not acted; CountFull; NoMemory. */
   bringEvent(kind: number, fields?: EventFields): void;
   /** Takes bytes of the host, in pieces of any length, and goes no further: `step` does the work. Throws, in this order, and the bytes are
    * then not taken: the fault by which the terminal has stopped before; a SamError with the code WAITING until a step was idle or locked,
@@ -640,8 +658,8 @@ export declare class Overlay extends Shown {
    * splices of an earlier step are left; the fault by which the terminal has stopped; Unfinished if memory is short, and nothing has
    * changed; the fault by which the terminal stops at this step. */
   step(): TerminalStep;
-  /** Makes all steps that can be made without the host, puts what waits over these files as they are free, and yields each change of the
-   * shown text. Take all: it goes no further than they are taken. Throws as `step` and `putNext` do. */
+  /** Makes all steps that can be made without the host, has requests act, puts what waits over these files as they are free, and yields
+   * each change of the shown text. Take all: it goes no further than they are taken. Throws as `step`, `actNext` and `putNext` do. */
   goOn(...tags: number[]): Generator<Splice, void>;
   /** Tests whether the host's stream may end here, as that of a terminal does. It changes nothing. */
   finish(): void;
@@ -920,24 +938,14 @@ export declare class Client extends Clocked {
   readonly note: Uint8Array;
   /** Replaces the shown runes from the place `start` to the place `end` by a text of any length, all or nothing. The new runes stand behind
    * what is shown before `start`. They are shown at once, whatever is locked, and go to the host as the client goes on; no request that was
-   * asked for before finds them. Throws as `replace` of an overlay does, in its order; but before its EditRefused (REFUSAL_EXITED) comes
-   * that if a request waits that ends the session, and then EditRefused (REFUSAL_NOT_OPEN) if one waits that closes the file. */
+   * asked for before finds them. Throws as `replace` of an overlay does, in its order. */
   replace(tag: number, start: number, end: number, text: Text): void;
-  /** Asks for what is no edit, by its number in EventKind. It stands in one order with the edits: it acts as the client goes on, once
-   * all edits before it are put, and finds the text that is shown now, with the host's changes since. The fields are those of
-   * `bringEvent` of an overlay. Returns the number of the request, by which `nextEvent` tells once that it acted or was refused; a write
-   * that would find the same text as one that waits is that one, and has its number. Throws, in this order, and the client is then as it
-   * was: NotText; NoMemory; Missing if no event has this kind; a SamError with the code WAITING while an edit was put that has not acted:
-   * go on first; one with the code TOO_MANY if 1,000 requests wait; CountFull; NoMemory. */
-  ask(kind: number, fields?: EventFields): number;
   /** Returns whether the host has all that the user did, and all notes: nothing waits here, and the host's end of the link has acknowledged
    * all. */
   readonly hasAll: boolean;
   /** Returns whether the shown text of a file may differ from the text that was written last. It is false for a tag without a file, and for
    * tag 0. */
   isUnsaved(tag: number): boolean;
-  /** Returns the number of requests that wait, those not among them that the terminal has. */
-  readonly requests: number;
 }
 export interface Client extends Shown {}
 

@@ -66,7 +66,7 @@ from sulgrevad.host import Host
 from sulgrevad.line import Line, LineDetails, Tick
 from sulgrevad.link import HELLO_BYTES, Hello, Link, What, read_hello, write_refusal
 from sulgrevad.note import Note, NoteCode, NoteKind, read_note, write_note
-from sulgrevad.overlay import Dropped, EventKind, Overlay, Put, Splice, SpliceKind
+from sulgrevad.overlay import Dropped, EventKind, Overlay, Put, Splice, SpliceKind, Turn
 from sulgrevad.results import Change, FileState, HostDid, NextFrame, Refusal, TerminalDid, TerminalState
 from sulgrevad.scripts import replay
 from sulgrevad.server import DurableServer, Effect, EffectKind, Recovery, recover
@@ -107,6 +107,6 @@ __all__ = [
     "Host", "HostDid", "HostRefused", "Kind", "Line", "LineDetails", "Link", "LinkFault", "MarkRefused", "Missing", "NextFrame",
     "NoMemory", "NotText", "Note", "NoteCode", "NoteFault", "NoteKind", "Overlay", "Pieces", "Put", "Recovery", "Refusal",
     "Replacement", "SamError", "ScriptFault", "ServerFault", "ShownEdit", "Splice", "SpliceKind", "Status", "Step", "StreamFault",
-    "Terminal", "TerminalDid", "TerminalRefused", "TerminalState", "Tick", "TooMany", "Unfinished", "Waiting", "What", "error_of",
+    "Terminal", "TerminalDid", "TerminalRefused", "TerminalState", "Tick", "TooMany", "Turn", "Unfinished", "Waiting", "What", "error_of",
     "library_version", "read_hello", "read_note", "recover", "replay", "status_text", "write_note", "write_refusal",
 ]  # fmt: skip

@@ -2,14 +2,14 @@
 import ctypes
 import enum
 import sys
-from ctypes import byref, c_size_t, c_uint32, c_uint64
+from ctypes import byref, c_size_t, c_uint32
 from typing import Iterator, List, NamedTuple, Optional, Sequence, Tuple, Union
 
 from sulgrevad._library import CChanges, CReplacement, CSplice, Did, Text, bytes_of
 from sulgrevad.carrier import MOST_NOTE, Bytes, id_of
 from sulgrevad.edits import EDITING, text_of
 from sulgrevad.line import Clocked
-from sulgrevad.overlay import EventKind, Shown, Splice, SpliceKind, did_of, event_of
+from sulgrevad.overlay import Shown, Splice, SpliceKind, did_of
 from sulgrevad.results import TerminalDid
 from sulgrevad.sides import Stopping, index
 from sulgrevad.status import EditRefused, Kind, NoMemory
@@ -155,8 +155,7 @@ class Client(Clocked, Shown, Stopping):
     def replace(self, tag: int, start: int, end: int, text: Text) -> None:
         """Replaces the shown runes from the place `start` to the place `end` by a text of any length, all or nothing. The new runes stand
         behind what is shown before `start`. They are shown at once, whatever is locked, and go to the host as the client goes on; no
-        request that was asked for before finds them. Raises as `replace` of an overlay does, in its order; but before its EditRefused
-        (EXITED) comes that if a request waits that ends the session, and then EditRefused (NOT_OPEN) if one waits that closes the file."""
+        request that was asked for before finds them. Raises as `replace` of an overlay does, in its order."""
         text = bytes_of(text)
         self._call("replace", tag, start, end, text, len(text))
 
@@ -176,21 +175,6 @@ class Client(Clocked, Shown, Stopping):
                 raise
         return made.value
 
-    def ask(
-        self, kind: EventKind, tag: int = 0, start: int = 0, number: int = 0, *, version: int = 0, text: Text = ""
-    ) -> int:
-        """Asks for what is no edit. It stands in one order with the edits: it acts as the client goes on, once all edits before it are put,
-        and finds the text that is shown now, with the host's changes since. A place that it names moves with that text: what the host puts
-        in at the place itself stands behind it, and a range of which all goes is empty there; a place past the end of the text stays. The
-        arguments are those of `bring_event` of an overlay. Returns the number of the request, by which `next_event` tells once that it
-        acted or was refused; a write that would find the same text as one that waits is that one, and has its number. Raises, in this
-        order, and the client is then as it was: NotText; NoMemory; Missing if no event has this kind; Waiting while an edit was put that
-        has not acted: go on first; TooMany if 1,000 requests wait; CountFull; NoMemory."""
-        event, request = event_of(kind, tag, start, number, version), c_uint64()
-        data = bytes_of(text)
-        self._call("ask", byref(event), data, len(data), byref(request))
-        return request.value
-
     # ---- The session
 
     @property
@@ -203,8 +187,3 @@ class Client(Clocked, Shown, Stopping):
         """Returns whether the shown text of a file may differ from the text that was written last. It is False for a tag without a file,
         and for tag 0."""
         return self._truth("is_unsaved", tag)
-
-    @property
-    def requests(self) -> int:
-        """Returns the number of requests that wait, those not among them that the terminal has."""
-        return self._number("requests", c_size_t)

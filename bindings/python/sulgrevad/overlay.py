@@ -1,6 +1,6 @@
 """A terminal whose user never waits: the edits that wait are shown over its texts."""
 import enum
-from ctypes import byref, c_size_t, c_uint16, c_uint32, create_string_buffer, string_at
+from ctypes import byref, c_size_t, c_uint16, c_uint32, c_uint64, create_string_buffer, string_at
 from typing import Iterator, List, NamedTuple, Optional
 
 from sulgrevad._library import CEvent, CSplice, Did, Text, bytes_of
@@ -57,6 +57,14 @@ class Put(enum.IntEnum):
     EDIT = 2
 
 
+class Turn(enum.IntEnum):
+    """What became of the oldest request (enum sam_turn of sulgrevad.h)."""
+
+    NOTHING = 0
+    NOT_YET = 1
+    REQUEST = 2
+
+
 class Splice(NamedTuple):
     """A change of the shown text of the file `tag`. CAME: `length` runes or gaps came in at the place; WENT: so many from the place on
     went; FILLED: the runes from the place on are loaded now, and nothing moved; EMPTIED: the text is empty, because the file was opened or
@@ -91,11 +99,32 @@ def did_of(did: Did) -> TerminalDid:
 
 
 SPLICE_KINDS = (SpliceKind.CAME, *SpliceKind)  # by their numbers, which begin with 1
-PUTS = tuple(Put)  # by their numbers
+PUTS, TURNS = tuple(Put), tuple(Turn)  # by their numbers
 
 
 class Shown(Screen):
-    """The shown texts of an overlay or a client, and how they change."""
+    """The shown texts of an overlay or a client, how they change, and what is asked for beside edits."""
+
+    def ask(
+        self, kind: EventKind, tag: int = 0, start: int = 0, number: int = 0, *, version: int = 0, text: Text = ""
+    ) -> int:
+        """Asks for what is no edit. It stands in one order with the edits: it acts as a client goes on, or by `act_next` of an overlay,
+        once all edits before it are put, and finds the text that is shown now, with the host's changes since. A place that it names moves
+        with that text: what the host puts in at the place itself stands behind it, and a range of which all goes is empty there; a place
+        past the end of the text stays. The arguments are those of `bring_event` of an overlay. Returns the number of the request, by which
+        `next_event` of a client or `step` of an overlay tells once that it acted or was refused; a write that would find the same text as
+        one that waits is that one, and has its number. Raises, in this order, and all is then as it was: NotText; NoMemory; Missing if no
+        event has this kind; Waiting while an edit was put that has not acted: go on first; TooMany if 1,000 requests wait; CountFull;
+        NoMemory."""
+        event, request = event_of(kind, tag, start, number, version), c_uint64()
+        data = bytes_of(text)
+        self._call("ask", byref(event), data, len(data), byref(request))
+        return request.value
+
+    @property
+    def requests(self) -> int:
+        """Returns the number of requests that wait, those not among them that the terminal has."""
+        return self._number("requests", c_size_t)
 
     def next_splice(self) -> Optional[Splice]:
         """Returns the next change of the shown text by the last step; None if none is left."""
@@ -158,8 +187,9 @@ class Overlay(Streams, Shown, Refusals):
     file is locked. Until the file is free it waits over the terminal's text, and the host's changes go through it.
 
         overlay.replace(tag, 5, 5, "!")             the user typed: it is shown from now on
+        overlay.ask(EventKind.WRITE, tag)           the user asked for something else
         overlay.bring(data)                         bytes of the host
-        for splice in overlay.go_on(tag):           it goes on as far as it can, and puts what waits over this file
+        for splice in overlay.go_on(tag):           it goes on as far as it can: requests act, and what waits over this file is put
             ..                                      each change goes into the editor's own text
         sock.sendall(overlay.take_out())            bytes for the host
 
@@ -173,29 +203,35 @@ class Overlay(Streams, Shown, Refusals):
 
     def replace(self, tag: int, start: int, end: int, text: Text) -> None:
         """Replaces the shown runes from the place `start` to the place `end` by a text of any length, all or nothing. The new runes stand
-        behind what is shown before `start`. They are shown at once, and wait for `put_next`; no lock refuses them. Raises, in this order,
-        and the overlay is then as it was: NotText; NoMemory; Waiting if splices are left; EditRefused (EXITED); the fault by which the
-        terminal has stopped; EditRefused (NO_FILE, COMMAND_FILE for tag 0, NOT_OPEN, BAD_POSITION for a range that the shown text doesn't
-        have, TOO_LONG if these runes, the terminal's text and all that waits over it are more than 1,000,000); NoMemory, also while an edit
-        of the file was put that has not acted."""
+        behind what is shown before `start`. They are shown at once, and wait for `put_next`; no lock refuses them, and no request that was
+        asked for before finds them. Raises, in this order, and the overlay is then as it was: NotText; NoMemory; Waiting if splices are
+        left; EditRefused (EXITED) if a request waits that ends the session, (NOT_OPEN) if one waits that closes the file, (EXITED) if the
+        session is over; the fault by which the terminal has stopped; EditRefused (NO_FILE, COMMAND_FILE for tag 0, NOT_OPEN, BAD_POSITION
+        for a range that the shown text doesn't have, TOO_LONG if these runes, the terminal's text and all that waits over it are more than
+        1,000,000); NoMemory, also while an edit of the file was put that has not acted."""
         text = bytes_of(text)
         self._call("replace", tag, start, end, text, len(text))
 
     def put_next(self, tag: int) -> Put:
-        """Puts the next edit of those that wait over a file as an event, if it can act at once, and returns what became of it. Call it, and
-        make a step, as long as it returns EDIT. Raises, in this order, and the overlay is then as it was: the fault by which the terminal
-        has stopped; EditRefused (TOO_LONG) if the file would have more than 1,000,000 runes, because the host put more in meanwhile;
-        CountFull; NoMemory."""
+        """Puts the next edit of those that wait over a file as an event, if it can act at once and stands behind no request of the file or
+        of the command lock, and returns what became of it. Call it, and make a step, as long as it returns EDIT. Raises, in this order, and
+        the overlay is then as it was: the fault by which the terminal has stopped; EditRefused (TOO_LONG) if the file would have more than
+        1,000,000 runes, because the host put more in meanwhile; CountFull; NoMemory."""
         return PUTS[self._number("put_next", c_uint32, tag)]
+
+    def act_next(self) -> Turn:
+        """Has the oldest request act, if all edits before it are put and it can act at once, and returns what became of it. Call it before
+        `put_next`, and make a step, as long as it returns REQUEST. Raises as `put_next` does, in its order, but no EditRefused."""
+        return TURNS[self._number("act_next", c_uint32)]
 
     def bring_event(
         self, kind: EventKind, tag: int = 0, start: int = 0, number: int = 0, *, version: int = 0, text: Text = ""
     ) -> None:
-        """Takes an event; `step` has it act. `start` and `number` are the range of SELECT; for DCLICK, VIEW and LOAD the place and how many
-        runes; for SCROLL `number` is how many lines. `version` is that of OFFER_VERSION, `text` that of SET_SNARF and TYPE_CMD. An event
-        acts on the terminal's text, so put all that waits over its file first. Raises, in this order, and the overlay is then as it was:
-        NotText; NoMemory; Missing if no event has this kind; the fault by which the terminal has stopped; Waiting until a step was IDLE or
-        LOCKED, and while an edit was put that has not acted; CountFull; NoMemory."""
+        """Takes an event beside the requests that wait, which stay; `step` has it act. `start` and `number` are the range of SELECT; for
+        DCLICK, VIEW and LOAD the place and how many runes; for SCROLL `number` is how many lines. `version` is that of OFFER_VERSION,
+        `text` that of SET_SNARF and TYPE_CMD. An event acts on the terminal's text, so put all that waits over its file first. Raises, in
+        this order, and the overlay is then as it was: NotText; NoMemory; Missing if no event has this kind; the fault by which the terminal
+        has stopped; Waiting until a step was IDLE or LOCKED, and while an edit was put that has not acted; CountFull; NoMemory."""
         event = event_of(kind, tag, start, number, version)
         data = bytes_of(text)
         self._call("bring_event", byref(event), data, len(data))
@@ -212,11 +248,12 @@ class Overlay(Streams, Shown, Refusals):
         return did_of(did)
 
     def go_on(self, *tags: int) -> Iterator[Splice]:
-        """Makes all steps that can be made without the host, puts what waits over these files as they are free, and yields each change of
-        the shown text. Take all: it goes no further than they are taken. Raises as `step` and `put_next` do."""
-        put = True
-        while put:
+        """Makes all steps that can be made without the host, has requests act, puts what waits over these files as they are free, and
+        yields each change of the shown text. Take all: it goes no further than they are taken. Raises as `step`, `act_next` and `put_next`
+        do."""
+        moves = True
+        while moves:
             yield from self.splices()
             while self.step().step not in (Step.IDLE, Step.LOCKED):
                 yield from self.splices()
-            put = any(self.put_next(tag) == Put.EDIT for tag in tags)
+            moves = self.act_next() == Turn.REQUEST or any(self.put_next(tag) == Put.EDIT for tag in tags)

@@ -1,10 +1,10 @@
 /*
  * waiting SEED STEPS: a host and an overlay in one process, joined by byte pipes that are cut at random places. The user edits one file,
- * has it written, and sends command lines that change it, as bytes go up and down now and then. An editor's own copy takes what its user
- * typed at once, and then the splices alone: it is what is shown after each step. At the end host, terminal and copy have the same text,
- * and no rune of the user's is lost. In a session with an even seed no command line is sent: there it is the text that the same edits make
- * on one machine. A call that wants memory is made again, so the program prints the same whichever request for memory was refused. It ends
- * with status 0, or 1 and what is wrong.
+ * asks for it to be written, and for command lines that change it, as bytes go up and down now and then. An editor's own copy takes what
+ * its user typed at once, and then the splices alone: it is what is shown after each step. Each request is told of once, in their order.
+ * At the end host, terminal and copy have the same text, and no rune of the user's is lost. In a session with an even seed no command line
+ * is sent: there it is the text that the same edits make on one machine. A call that wants memory is made again, so the program prints the
+ * same whichever request for memory was refused. It ends with status 0, or 1 and what is wrong.
  */
 #include "wanting.h"
 
@@ -15,6 +15,7 @@ static sam_overlay overlay = SAM_OVERLAY_INIT;
 static uint64_t state;
 static bool sends;
 static unsigned long edits, told, lines, writes;
+static uint64_t asked, answered; /* the numbers of the last request that was taken, and of the last that was told of */
 
 /* A text of runes, or gaps. */
 struct text {
@@ -92,21 +93,27 @@ static bool step(void)
     DONE(sam_overlay_step(&overlay, &did));
     while (sam_overlay_next_splice(&overlay, &splice) == SAM_OK)
         take_splice(&splice);
+    if (did.request > 0)
+        WANT(did.request, ++answered);
     WANT(sam_overlay_file(&overlay, EDITED, &file), SAM_OK);
     if (file.is_open)
         same_as_shown();
     return did.step != SAM_STEP_IDLE && did.step != SAM_STEP_LOCKED;
 }
 
-/* All that can be done without the host, what waits among it. */
+/* All that can be done without the host, requests and edits that wait among it. */
 static void go_on(void)
 {
-    sam_put put = SAM_PUT_EDIT;
-    while (put == SAM_PUT_EDIT) {
+    sam_turn turn;
+    sam_put put;
+    do {
         while (step())
             ;
-        DONE(sam_overlay_put_next(&overlay, EDITED, &put));
-    }
+        put = SAM_PUT_NOTHING;
+        DONE(sam_overlay_act_next(&overlay, &turn));
+        if (turn != SAM_TURN_REQUEST)
+            DONE(sam_overlay_put_next(&overlay, EDITED, &put));
+    } while (turn == SAM_TURN_REQUEST || put == SAM_PUT_EDIT);
 }
 
 /* ---- Bytes ---- */
@@ -156,6 +163,18 @@ static void event(sam_event_kind kind, uint16_t tag, uint32_t start, uint32_t nu
     go_on();
 }
 
+static void ask(sam_event_kind kind, uint16_t tag, uint32_t start, uint32_t number)
+{
+    sam_event event = {.kind = kind, .start = start, .number = number, .tag = tag};
+    uint64_t request = 0;
+    go_on();
+    DONE(sam_overlay_ask(&overlay, &event, NULL, 0, &request));
+    WANT(request > answered && request <= asked + 1, 1);
+    asked = request > asked ? request : asked;
+    if (asked % 2 == 0)
+        go_on();
+}
+
 static void edit(void)
 {
     static const struct {
@@ -189,8 +208,8 @@ static void send_line(void)
         uint32_t start, end;
     } at[] = {{0, 10}, {11, 21}, {22, 29}, {30, 37}, {38, 43}};
     uint32_t which = pick(5);
-    event(SAM_EVENT_SELECT, COMMANDS, at[which].start, at[which].end);
-    event(SAM_EVENT_SEND, COMMANDS, 0, 0);
+    ask(SAM_EVENT_SELECT, COMMANDS, at[which].start, at[which].end);
+    ask(SAM_EVENT_SEND, COMMANDS, 0, 0);
     lines++;
 }
 
@@ -199,14 +218,14 @@ static void user(void)
     switch (pick(ALL_KINDS)) {
     case 0:
         writes++;
-        event(SAM_EVENT_WRITE, EDITED, 0, 0);
+        ask(SAM_EVENT_WRITE, EDITED, 0, 0);
         break;
     case 1:
         if (sends)
             send_line();
         break;
     case 2:
-        event(SAM_EVENT_LOAD, EDITED, 0, MOST);
+        ask(SAM_EVENT_LOAD, EDITED, 0, MOST);
         break;
     default:
         edit();
@@ -243,6 +262,7 @@ static void rest(void)
     size_t count = 0;
     long left = 0;
     drain();
+    WANT(answered, asked);
     event(SAM_EVENT_LOAD, EDITED, 0, MOST);
     drain();
     WANT(sam_overlay_waiting(&overlay, EDITED, &waiting), SAM_OK);

@@ -445,6 +445,34 @@ function checkOverlay() {
   same(carried(overlay, host)[0], { kind: "emptied", tag, place: 0, count: 0 });
 }
 
+function checkOverlayRequests() {
+  const [host, overlay, tag] = overlaid("hello");
+  same([overlay.actNext(), overlay.requests], ["nothing", 0]);
+  overlay.replace(tag, 5, 5, "!");
+  same([overlay.ask(EventKind.SELECT, { tag, start: 4, number: 6 }), overlay.ask(EventKind.WRITE, { tag })], [1, 2]);
+  same([overlay.ask(EventKind.WRITE, { tag }), overlay.requests], [2, 2]);
+  overlay.replace(tag, 0, 1, "J");
+  same([overlay.ask(EventKind.DCLICK, { tag, start: 99 }), overlay.actNext(), overlay.putNext(tag)], [3, "not yet", "edit"]);
+  throws("SamError", "WAITING", () => overlay.ask(EventKind.FLUSH));
+  same([overlay.step().request, [...overlay.goOn(tag)], overlay.requests, overlay.actNext()], [0, [], 1, "not yet"]);
+  host.feed(overlay.takeOut());
+  same([host.saved(tag), overlay.text(tag), overlay.file(tag).dot], ["hello!", "Jello!", { start: 4, end: 6 }]);
+  overlay.bring(host.takeOut());
+  while (overlay.step().step !== "idle");
+  same(overlay.actNext(), "request");
+  const did = overlay.step();
+  same([did.step, did.request, did.why], ["refused", 3, Status.REFUSAL_BAD_POSITION]);
+  carried(overlay, host, tag);
+  same([host.text(tag), overlay.requests], ["Jello!", 0]);
+  overlay.ask(EventKind.CLOSE, { tag });
+  throws("EditRefused", "REFUSAL_NOT_OPEN", () => overlay.replace(tag, 0, 0, "x"));
+  throws("Missing", "NONE", () => overlay.ask(25));
+  overlay.ask(EventKind.EXIT);
+  throws("EditRefused", "REFUSAL_EXITED", () => overlay.replace(tag, 0, 0, "x"));
+  overlay.bringEvent(EventKind.SNARF, { tag });
+  same([overlay.requests, overlay.actNext()], [2, "not yet"]);
+}
+
 function checkCommandFile() {
   const [host, overlay] = overlaid("hello");
   overlay.bringEvent(EventKind.TYPE_CMD, { text: "abc" });
@@ -533,7 +561,7 @@ function keyTime() {
 
 const CHECKS = [
   ...[checkTexts, checkFiles, checkEditing, checkLongText, checkRefusals, checkSteps, checkStates, checkNumbers, checkEnds],
-  ...[checkOverlay, checkCommandFile, checkTakenBack, checkRefusedOverlay],
+  ...[checkOverlay, checkOverlayRequests, checkCommandFile, checkTakenBack, checkRefusedOverlay],
   ...[checkLink, checkRefusedLink, checkLine, checkNotes, checkMemory, checkScripts],
   ...CLIENT_CHECKS,
   ...SESSION_CHECKS,

@@ -27,6 +27,7 @@ union out {
     sam_line_details details;
     sam_splice splice;
     sam_put put;
+    sam_turn turn;
     sam_client_event told;
     sam_effect effect;
     uint8_t u8;

@@ -6,7 +6,8 @@ DECLARATION = re.compile(r"^(?:SAM_MUST_USE )?sam_status (sam_\w+)\(([^)]*)\);",
 FIELDS = {
     "uint8_t": "u8", "uint16_t": "u16", "uint32_t": "u32", "uint64_t": "u64", "size_t": "size", "bool": "truth", "sam_status": "status",
     "sam_did": "did", "sam_state": "state", "sam_file": "file", "sam_note": "note", "sam_record": "record", "sam_record_frame": "frame",
-    "sam_line_details": "details", "sam_splice": "splice", "sam_put": "put", "sam_client_event": "told", "sam_effect": "effect",
+    "sam_line_details": "details", "sam_splice": "splice", "sam_put": "put", "sam_turn": "turn", "sam_client_event": "told",
+    "sam_effect": "effect",
 }
 NUMBERS = {"uint16_t": "u16", "uint32_t": "u32", "uint64_t": "u64", "size_t": "size", "bool": "truth"}
 LONG = ("u64", "size")  # those of 64 bits

@@ -288,6 +288,13 @@ pub const SAM_PUT_NOTHING: sam_put = 0;
 pub const SAM_PUT_NOT_FREE: sam_put = 1;
 pub const SAM_PUT_EDIT: sam_put = 2;
 
+/// What became of the oldest request: one of the numbers below.
+pub type sam_turn = u32;
+
+pub const SAM_TURN_NOTHING: sam_turn = 0;
+pub const SAM_TURN_NOT_YET: sam_turn = 1;
+pub const SAM_TURN_REQUEST: sam_turn = 2;
+
 /// What a client tells as it goes on: enum sam_client_event.
 pub type sam_client_event = u32;
 
@@ -983,9 +990,10 @@ extern "C" {
     pub fn sam_overlay_bring(overlay: *mut sam_overlay, bytes: *const u8, len: usize) -> sam_status;
     /// Makes one step with the frames and events that wait, as sam_term_step does, and hands out its result. Its change is that of the
     /// terminal's text; that of the shown text is then handed out by sam_overlay_next_splice. By an edit that was put nothing that is shown
-    /// changes. Refused, in this order, and nothing is handed out then: SAM_WAITING if splices are left; why the terminal has stopped
-    /// before, SAM_STREAM.. or SAM_TERM_REFUSED..; SAM_UNFINISHED if memory is short, and nothing has changed, so make the step again; why
-    /// the terminal stops at this step: what is shown, and what waits, is as it was.
+    /// changes. If a request acted or was refused, `request` is its number, as sam_overlay_ask handed it out: each is told once, in their
+    /// order. Refused, in this order, and nothing is handed out then: SAM_WAITING if splices are left; why the terminal has stopped before,
+    /// SAM_STREAM.. or SAM_TERM_REFUSED..; SAM_UNFINISHED if memory is short, and nothing has changed, so make the step again; why the
+    /// terminal stops at this step: what is shown, and what waits, is as it was.
     pub fn sam_overlay_step(overlay: *mut sam_overlay, did: *mut sam_did) -> sam_status;
     /// Hands out the next change of the shown text by the last step. Returns SAM_NONE if none is left.
     pub fn sam_overlay_next_splice(overlay: *mut sam_overlay, splice: *mut sam_splice) -> sam_status;
@@ -998,18 +1006,20 @@ extern "C" {
     /// Moves the first pending bytes into the buffer, as many as fit, and hands out their number.
     pub fn sam_overlay_take_out(overlay: *mut sam_overlay, into: *mut u8, room: usize, count: *mut usize) -> sam_status;
     /// Replaces the shown runes of a file from the place `start` to the place `end` by a text of any length, all or nothing. The new runes
-    /// stand behind what is shown before `start`. They are shown at once, and wait for sam_overlay_put_next; no lock refuses them. Refused,
-    /// in this order, and the overlay is then as it was: SAM_NOT_TEXT; SAM_NO_MEMORY if there is no memory for the runes; SAM_WAITING if
-    /// splices are left; SAM_REFUSAL_EXITED; why the terminal has stopped before, SAM_STREAM.. or SAM_TERM_REFUSED..; SAM_REFUSAL_NO_FILE;
-    /// SAM_REFUSAL_COMMAND_FILE for tag 0; SAM_REFUSAL_NOT_OPEN; SAM_REFUSAL_BAD_POSITION if `end` is below `start` or after the end of the
-    /// shown text; SAM_REFUSAL_TOO_LONG if there are runes, and these, the terminal's text and all that waits over it are more than
-    /// 1,000,000; SAM_NO_MEMORY, also while an edit of the file was put that has not acted: make steps first.
+    /// stand behind what is shown before `start`. They are shown at once, and wait for sam_overlay_put_next; no lock refuses them, and no
+    /// request that was asked for before finds them. Refused, in this order, and the overlay is then as it was: SAM_NOT_TEXT; SAM_NO_MEMORY
+    /// if there is no memory for the runes; SAM_WAITING if splices are left; SAM_REFUSAL_EXITED if a request waits that ends the session;
+    /// SAM_REFUSAL_NOT_OPEN if one waits that closes the file; SAM_REFUSAL_EXITED if the session is over; why the terminal has stopped
+    /// before, SAM_STREAM.. or SAM_TERM_REFUSED..; SAM_REFUSAL_NO_FILE; SAM_REFUSAL_COMMAND_FILE for tag 0; SAM_REFUSAL_NOT_OPEN;
+    /// SAM_REFUSAL_BAD_POSITION if `end` is below `start` or after the end of the shown text; SAM_REFUSAL_TOO_LONG if there are runes, and
+    /// these, the terminal's text and all that waits over it are more than 1,000,000; SAM_NO_MEMORY, also while an edit of the file was put
+    /// that has not acted: make steps first.
     pub fn sam_overlay_replace(overlay: *mut sam_overlay, tag: u16, start: u32, end: u32, text: *const u8, len: usize) -> sam_status;
     /// Puts the next edit of those that wait over a file as an event, if it can act at once, and hands out what became of it. The edit is
-    /// one removal, or one insertion of any length. Call it, and make a step, as long as it hands out SAM_PUT_EDIT. Refused, in this order,
-    /// and the overlay is then as it was: why the terminal has stopped before, SAM_STREAM.. or SAM_TERM_REFUSED..; SAM_REFUSAL_TOO_LONG if
-    /// the file would have more than 1,000,000 runes, because the host put more in meanwhile; SAM_COUNT_FULL after 2^64-1 events;
-    /// SAM_NO_MEMORY.
+    /// one removal, or one insertion of any length, and none that stands behind a request of the file or of the command lock. Call it, and
+    /// make a step, as long as it hands out SAM_PUT_EDIT. Refused, in this order, and the overlay is then as it was: why the terminal has
+    /// stopped before, SAM_STREAM.. or SAM_TERM_REFUSED..; SAM_REFUSAL_TOO_LONG if the file would have more than 1,000,000 runes, because
+    /// the host put more in meanwhile; SAM_COUNT_FULL after 2^64-1 events; SAM_NO_MEMORY.
     pub fn sam_overlay_put_next(overlay: *mut sam_overlay, tag: u16, put: *mut sam_put) -> sam_status;
     /// Takes back the next insertion that waits over a file, if an edit could act at once and the file has no room for this one: that is
     /// where sam_overlay_put_next answers SAM_REFUSAL_TOO_LONG. Copies its runes in UTF-8, all of them, and hands out the number of bytes,
@@ -1024,11 +1034,33 @@ extern "C" {
         room: usize,
         len: *mut usize,
     ) -> sam_status;
-    /// Takes an event. It waits for sam_overlay_step. The text is that of SAM_EVENT_SET_SNARF and of SAM_EVENT_TYPE_CMD; for other kinds
-    /// `len` is 0. An event acts on the terminal's text: so put all that waits over its file first. Refused, in this order, and the overlay
-    /// is then as it was: SAM_NOT_TEXT if the text is not UTF-8; SAM_NO_MEMORY if there is no memory for its runes; SAM_NONE if no event
-    /// has this kind; why the terminal has stopped before, SAM_STREAM.. or SAM_TERM_REFUSED..; SAM_WAITING as for sam_overlay_bring;
-    /// SAM_COUNT_FULL after 2^64-1 events; SAM_NO_MEMORY.
+    /// Asks for what is no edit: an event (enum sam_event_kind), with its text if it brings one. It stands in one order with the edits: it
+    /// acts by sam_overlay_act_next, once all edits before it are put, and finds the text that is shown now, with the host's changes since.
+    /// A place that it names moves with that text, as of sam_client_ask. Hands out the number of the request, counted from 1 over those
+    /// that were taken: sam_overlay_step tells by it, once, that the request acted or was refused. A write that would find the same text as
+    /// one that waits is that one, and has its number. Refused, in this order, and overlay and number are then as they were: SAM_NOT_TEXT
+    /// if the text is not UTF-8; SAM_NO_MEMORY if there is no memory for its runes; SAM_NONE if no event has this kind; SAM_COUNT_FULL if
+    /// 2^64-1 requests were taken; SAM_WAITING while an edit was put that has not acted: make a step first; SAM_TOO_MANY if 1,000 requests
+    /// wait; SAM_COUNT_FULL if 2^32-1 were taken while edits or requests waited; SAM_NO_MEMORY.
+    pub fn sam_overlay_ask(
+        overlay: *mut sam_overlay,
+        event: *const sam_event,
+        text: *const u8,
+        len: usize,
+        number: *mut u64,
+    ) -> sam_status;
+    /// Has the oldest request act, if all edits before it are put and it can act at once, and hands out what became of it: at
+    /// SAM_TURN_REQUEST it waits no more, and the next step has it act, or refuses it. A request waits for the edits of its file; one that
+    /// takes the command lock for those of all files. Call it before sam_overlay_put_next, and make a step, as long as it hands out
+    /// SAM_TURN_REQUEST. Its refusals are those of sam_overlay_put_next, in its order, without SAM_REFUSAL_TOO_LONG.
+    pub fn sam_overlay_act_next(overlay: *mut sam_overlay, turn: *mut sam_turn) -> sam_status;
+    /// Hands out the number of requests that wait, those not among them that the terminal has.
+    pub fn sam_overlay_requests(overlay: *mut sam_overlay, count: *mut usize) -> sam_status;
+    /// Takes an event beside the requests that wait, which stay. It waits for sam_overlay_step. The text is that of SAM_EVENT_SET_SNARF and
+    /// of SAM_EVENT_TYPE_CMD; for other kinds `len` is 0. An event acts on the terminal's text: so put all that waits over its file first,
+    /// or ask for it by sam_overlay_ask. Refused, in this order, and the overlay is then as it was: SAM_NOT_TEXT if the text is not UTF-8;
+    /// SAM_NO_MEMORY if there is no memory for its runes; SAM_NONE if no event has this kind; why the terminal has stopped before,
+    /// SAM_STREAM.. or SAM_TERM_REFUSED..; SAM_WAITING as for sam_overlay_bring; SAM_COUNT_FULL after 2^64-1 events; SAM_NO_MEMORY.
     pub fn sam_overlay_bring_event(overlay: *mut sam_overlay, event: *const sam_event, text: *const u8, len: usize) -> sam_status;
     /// Hands out the oldest refused event that was not handed out yet: its number, counted from 1 over all events that were taken and all
     /// edits that were put, and the reason (SAM_REFUSAL..). Returns SAM_NONE if there is none.
@@ -1327,9 +1359,7 @@ extern "C" {
     pub fn sam_client_put_note(client: *mut sam_client, bytes: *const u8, len: usize, now: u64) -> sam_status;
     /// Replaces the shown runes of a file from the place `start` to the place `end` by a text of any length, all or nothing. The new runes
     /// stand behind what is shown before `start`. They are shown at once, whatever is locked, and go to the host as the client goes on; no
-    /// request that was asked for before finds them. Its refusals are those of sam_overlay_replace, in its order; but before its
-    /// SAM_REFUSAL_EXITED comes that if a request waits that ends the session, and then SAM_REFUSAL_NOT_OPEN if one waits that closes the
-    /// file.
+    /// request that was asked for before finds them. Its refusals are those of sam_overlay_replace, in its order.
     pub fn sam_client_replace(client: *mut sam_client, tag: u16, start: u32, end: u32, text: *const u8, len: usize) -> sam_status;
     /// Makes replacements of a file, one after another, each as sam_client_replace does: its places are those of the text that the ones
     /// before it have left. So from the last place to the first, all are places of the text before. The text has the runes of all of them,

@@ -224,9 +224,7 @@ impl Client {
 
     /// Replaces the shown runes from the place `start` to the place `end` by a text of any length, all or nothing. The new runes stand
     /// behind what is shown before `start`. They are shown at once, whatever is locked, and go to the host as the client goes on; no
-    /// request that was asked for before finds them. Its errors are those of [`Overlay::replace`](crate::Overlay::replace), in its order;
-    /// but before its `Edit(Exited)` comes that if a request waits that ends the session, and then `Edit(NotOpen)` if one waits that closes
-    /// the file.
+    /// request that was asked for before finds them. Its errors are those of [`Overlay::replace`](crate::Overlay::replace), in its order.
     pub fn replace(&mut self, tag: u16, start: u32, end: u32, text: &str) -> Result<(), Error> {
         done(unsafe { sys::sam_client_replace(self.at(), tag, start, end, text.as_ptr(), text.len()) })
     }

@@ -61,7 +61,7 @@ pub use host::Host;
 pub use line::{Line, LineDetails, LineState, Tick};
 pub use link::{read_hello, write_refusal, Hello, Link, Phase, Place, Role, What, HELLO_BYTES, MOST_NOTE};
 pub use note::{read_note, write_note, Note, NoteCode, NoteKind};
-pub use overlay::{Dropped, Event, Overlay, Put, Splice, SpliceKind};
+pub use overlay::{Dropped, Event, Overlay, Put, Splice, SpliceKind, Turn};
 pub use script::replay;
 pub use server::{recover, DurableServer, Effect, Recovery};
 pub use session::{Session, SessionError, Waker, WriteHalf};

@@ -88,10 +88,21 @@ impl Dropped {
 pub enum Put {
     /// Nothing waits over the file: what is shown is the terminal's text.
     Nothing,
-    /// It waits on: a lock is held, or frames, events or composed messages come first.
+    /// It waits on: a lock is held, or frames, events, composed messages or a request come first.
     NotFree,
     /// It was put, and the next step has it act.
     Edit,
+}
+
+/// What became of the oldest request.
+#[derive(Clone, Copy, Debug, PartialEq, Eq)]
+pub enum Turn {
+    /// None waits.
+    Nothing,
+    /// It waits on: edits before it are left to put, a lock is in its way, or frames, events or composed messages come first.
+    NotYet,
+    /// The terminal has it, and the next step has it act.
+    Request,
 }
 
 /// An event of the user that leaves each text but that of the command file. Each does what the call of a [`Terminal`](crate::Terminal) does
@@ -187,19 +198,20 @@ impl<'a> Event<'a> {
 /// own, and its places are always right. A replacement makes no splice.
 ///
 /// ```
-/// use sulgrevad::{Event, Host, Overlay, Put, TermStep};
+/// use sulgrevad::{Event, Host, Overlay, Put, TermStep, Turn};
 ///
 /// let mut host = Host::new()?;
 /// let file = host.add_file("notes", "")?;
 /// let mut overlay = Overlay::new()?;
 ///
-/// // Goes on as far as it can, and puts what waits. In an editor each splice goes into its own text, and a pipe stands between the two.
+/// // Goes on as far as it can: requests act, and what waits is put. In an editor each splice goes into its own text, and a pipe stands
+/// // between the two.
 /// fn go_on(overlay: &mut Overlay, file: u16) -> Result<(), sulgrevad::Error> {
 ///     loop {
-///         while !matches!(overlay.step()?, TermStep::Idle | TermStep::Locked) {
+///         while !matches!(overlay.step()?.0, TermStep::Idle | TermStep::Locked) {
 ///             for _splice in overlay.splices() {}
 ///         }
-///         if overlay.put_next(file)? != Put::Edit {
+///         if overlay.act_next()? != Turn::Request && overlay.put_next(file)? != Put::Edit {
 ///             return Ok(());
 ///         }
 ///     }
@@ -216,16 +228,18 @@ impl<'a> Event<'a> {
 ///     Ok(())
 /// }
 ///
-/// overlay.bring_event(Event::OfferVersion(2))?;
+/// overlay.ask(Event::OfferVersion(2))?;
 /// carry(&mut overlay, &mut host, file)?;
-/// overlay.bring_event(Event::Open(file))?;
+/// overlay.ask(Event::Open(file))?;
 /// carry(&mut overlay, &mut host, file)?;
-/// overlay.bring_event(Event::Write(file))?;
+/// overlay.ask(Event::Write(file))?;
 /// go_on(&mut overlay, file)?; // the file is locked now
 /// overlay.replace(file, 0, 0, "hello")?;
-/// assert_eq!(overlay.text(file, 0).as_deref(), Some("hello"));
+/// overlay.ask(Event::Write(file))?; // it will write the hello
+/// overlay.replace(file, 5, 5, "!")?;
+/// assert_eq!(overlay.text(file, 0).as_deref(), Some("hello!"));
 /// carry(&mut overlay, &mut host, file)?;
-/// assert_eq!(host.text(file).as_deref(), Some("hello"));
+/// assert_eq!(host.text(file).as_deref(), Some("hello!"));
 /// # Ok::<(), sulgrevad::Error>(())
 /// ```
 #[derive(Debug)]
@@ -250,19 +264,20 @@ impl Overlay {
     }
 
     /// Replaces the shown runes from the place `start` to the place `end` by a text of any length, all or nothing. The new runes stand
-    /// behind what is shown before `start`. They are shown at once, and wait for `put_next`; no lock refuses them. Errors, in this order,
-    /// and the overlay is then as it was: `NoMemory`; `Waiting` if splices are left; `Edit(Exited)`; why the terminal has stopped before
-    /// (`Stream`, `TermRefused`); `Edit` with `NoFile`, `CommandFile` for tag 0, `NotOpen`, `BadPosition` for a range that the shown text
-    /// doesn't have, `TooLong` if these runes, the terminal's text and all that waits over it are more than 1,000,000; `NoMemory`, also
-    /// while an edit of the file was put that has not acted.
+    /// behind what is shown before `start`. They are shown at once, and wait for `put_next`; no lock refuses them, and no request that was
+    /// asked for before finds them. Errors, in this order, and the overlay is then as it was: `NoMemory`; `Waiting` if splices are left;
+    /// `Edit(Exited)` if a request waits that ends the session; `Edit(NotOpen)` if one waits that closes the file; `Edit(Exited)` if the
+    /// session is over; why the terminal has stopped before (`Stream`, `TermRefused`); `Edit` with `NoFile`, `CommandFile` for tag 0,
+    /// `NotOpen`, `BadPosition` for a range that the shown text doesn't have, `TooLong` if these runes, the terminal's text and all that
+    /// waits over it are more than 1,000,000; `NoMemory`, also while an edit of the file was put that has not acted.
     pub fn replace(&mut self, tag: u16, start: u32, end: u32, text: &str) -> Result<(), Error> {
         done(unsafe { sys::sam_overlay_replace(self.at(), tag, start, end, text.as_ptr(), text.len()) })
     }
 
-    /// Puts the next edit of those that wait over a file as an event, if it can act at once, and returns what became of it. Call it, and
-    /// make a step, as long as it returns `Edit`. Errors, in this order, and the overlay is then as it was: why the terminal has stopped
-    /// before; `Edit(TooLong)` if the file would have more than 1,000,000 runes, because the host put more in meanwhile; `CountFull`;
-    /// `NoMemory`.
+    /// Puts the next edit of those that wait over a file as an event, if it can act at once and stands behind no request of the file or of
+    /// the command lock, and returns what became of it. Call it, and make a step, as long as it returns `Edit`. Errors, in this order, and
+    /// the overlay is then as it was: why the terminal has stopped before; `Edit(TooLong)` if the file would have more than 1,000,000
+    /// runes, because the host put more in meanwhile; `CountFull`; `NoMemory`.
     pub fn put_next(&mut self, tag: u16) -> Result<Put, Error> {
         let mut put = 0;
         done(unsafe { sys::sam_overlay_put_next(self.at(), tag, &mut put) })?;
@@ -282,9 +297,40 @@ impl Overlay {
         })
     }
 
-    /// Takes an event; `step` has it act. An event acts on the terminal's text, so put all that waits over its file first. Errors, in this
-    /// order, and the overlay is then as it was: `NoMemory`, if it brings a text; why the terminal has stopped before; `Waiting` until a
-    /// step was `Idle` or `Locked`, and while an edit was put that has not acted; `CountFull`; `NoMemory`.
+    /// Asks for what is no edit. It stands in one order with the edits: it acts by `act_next`, once all edits before it are put, and finds
+    /// the text that is shown now, with the host's changes since. A place that it names moves with that text, as for
+    /// [`Client::ask`](crate::Client::ask). Returns the number of the request, by which `step` tells once that it acted or was refused; a
+    /// write that would find the same text as one that waits is that one, and has its number. Errors, in this order, and the overlay is
+    /// then as it was: `NoMemory`, if it brings a text; `Waiting` while an edit was put that has not acted: make a step first; `TooMany` if
+    /// 1,000 requests wait; `CountFull`; `NoMemory`.
+    pub fn ask(&mut self, event: Event<'_>) -> Result<u64, Error> {
+        let (text, mut number) = (event.text(), 0);
+        done(unsafe { sys::sam_overlay_ask(self.at(), &event.numbers(), text.as_ptr(), text.len(), &mut number) })?;
+        Ok(number)
+    }
+
+    /// Has the oldest request act, if all edits before it are put and it can act at once, and returns what became of it. Call it before
+    /// `put_next`, and make a step, as long as it returns `Request`. Its errors are those of `put_next`, in its order, without
+    /// `Edit(TooLong)`.
+    pub fn act_next(&mut self) -> Result<Turn, Error> {
+        let mut turn = 0;
+        done(unsafe { sys::sam_overlay_act_next(self.at(), &mut turn) })?;
+        Ok(match turn {
+            sys::SAM_TURN_NOTHING => Turn::Nothing,
+            sys::SAM_TURN_NOT_YET => Turn::NotYet,
+            _ => Turn::Request,
+        })
+    }
+
+    /// Returns the number of requests that wait, those not among them that the terminal has.
+    pub fn requests(&self) -> usize {
+        tells(|count| unsafe { sys::sam_overlay_requests(self.at(), count) })
+    }
+
+    /// Takes an event beside the requests that wait, which stay; `step` has it act. An event acts on the terminal's text, so put all that
+    /// waits over its file first. Errors, in this order, and the overlay is then as it was: `NoMemory`, if it brings a text; why the
+    /// terminal has stopped before; `Waiting` until a step was `Idle` or `Locked`, and while an edit was put that has not acted;
+    /// `CountFull`; `NoMemory`.
     pub fn bring_event(&mut self, event: Event<'_>) -> Result<(), Error> {
         let text = event.text();
         done(unsafe { sys::sam_overlay_bring_event(self.at(), &event.numbers(), text.as_ptr(), text.len()) })
@@ -298,13 +344,13 @@ impl Overlay {
     }
 
     /// Makes one step with the frames and events that wait, as that of a terminal, and returns its result, whose change is that of the
-    /// terminal's text. `splices` then has the changes of the shown text. Errors, in this order: `Waiting` if splices of an earlier step
-    /// are left; why the terminal has stopped before; `Unfinished` if memory is short, and nothing has changed; why the terminal stops at
-    /// this step.
-    pub fn step(&mut self) -> Result<TermStep, Error> {
+    /// terminal's text. If a request acted or was refused, its number stands beside it. `splices` then has the changes of the shown text.
+    /// Errors, in this order: `Waiting` if splices of an earlier step are left; why the terminal has stopped before; `Unfinished` if memory
+    /// is short, and nothing has changed; why the terminal stops at this step.
+    pub fn step(&mut self) -> Result<(TermStep, Option<u64>), Error> {
         let mut did = sam_did::default();
         done(unsafe { sys::sam_overlay_step(self.at(), &mut did) })?;
-        Ok(term_step(&did))
+        Ok((term_step(&did), (did.request != 0).then_some(did.request)))
     }
 
     /// Returns the next change of the shown text by the last step; `None` if none is left.

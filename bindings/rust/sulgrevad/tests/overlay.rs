@@ -1,15 +1,15 @@
 //! An overlay: what is typed under a lock, what the host does under it, and what is refused.
 
-use sulgrevad::{Dropped, Error, Event, Host, Overlay, Put, Refusal, Splice, SpliceKind, StreamFault, TermStep};
+use sulgrevad::{Dropped, Error, Event, Host, Overlay, Put, Refusal, Splice, SpliceKind, StreamFault, TermStep, Turn};
 
-/// All that can be done without the host, what waits over the file among it. Returns the changes of what is shown.
+/// All that can be done without the host, requests and what waits over the file among it. Returns the changes of what is shown.
 fn go_on(overlay: &mut Overlay, file: u16) -> Vec<Splice> {
     let mut splices = Vec::new();
     loop {
-        while !matches!(overlay.step().unwrap(), TermStep::Idle | TermStep::Locked) {
+        while !matches!(overlay.step().unwrap().0, TermStep::Idle | TermStep::Locked) {
             splices.extend(overlay.splices());
         }
-        if overlay.put_next(file).unwrap() != Put::Edit {
+        if overlay.act_next().unwrap() != Turn::Request && overlay.put_next(file).unwrap() != Put::Edit {
             return splices;
         }
     }
@@ -90,6 +90,54 @@ fn the_command_file_is_shown_as_its_events_act() {
     assert_eq!((overlay.text(0, 0), host.text(0)), (Some("xabc".into()), Some("xabc".into())));
 }
 
+/// The numbers of the requests that act or are refused until nothing is left to do without the host.
+fn told(overlay: &mut Overlay, file: u16) -> Vec<(u64, bool)> {
+    let mut told = Vec::new();
+    loop {
+        loop {
+            let (step, request) = overlay.step().unwrap();
+            told.extend(request.map(|number| (number, matches!(step, TermStep::Acted { .. }))));
+            if matches!(step, TermStep::Idle | TermStep::Locked) {
+                break;
+            }
+            for _splice in overlay.splices() {}
+        }
+        if overlay.act_next().unwrap() != Turn::Request && overlay.put_next(file).unwrap() != Put::Edit {
+            return told;
+        }
+    }
+}
+
+#[test]
+fn requests_stand_in_one_order_with_the_edits() {
+    let (mut host, mut overlay, file) = opened("hello");
+    assert_eq!((overlay.act_next(), overlay.requests()), (Ok(Turn::Nothing), 0));
+    overlay.replace(file, 5, 5, "!").unwrap();
+    assert_eq!((overlay.ask(Event::Select(file, 5, 6)), overlay.ask(Event::Write(file))), (Ok(1), Ok(2)));
+    assert_eq!((overlay.ask(Event::Write(file)), overlay.requests()), (Ok(2), 2)); // it would write the same text
+    overlay.replace(file, 0, 1, "J").unwrap();
+    assert_eq!(overlay.ask(Event::Dclick(file, 99)), Ok(3));
+    assert_eq!(overlay.act_next(), Ok(Turn::NotYet));
+    assert_eq!(overlay.put_next(file), Ok(Put::Edit));
+    assert_eq!(overlay.ask(Event::Flush), Err(Error::Waiting));
+    assert_eq!(told(&mut overlay, file), [(1, true), (2, true)]);
+    assert_eq!((overlay.put_next(file), overlay.requests()), (Ok(Put::NotFree), 1)); // the write has locked it
+    let up: Vec<u8> = overlay.take_out().flatten().collect();
+    host.feed(&up).unwrap();
+    assert_eq!((host.saved(file).as_deref(), overlay.text(file, 0).as_deref()), (Some("hello!"), Some("Jello!")));
+    let down: Vec<u8> = host.take_out().flatten().collect();
+    overlay.bring(&down).unwrap();
+    assert_eq!(told(&mut overlay, file), [(3, false)]);
+    carry(&mut overlay, &mut host, file);
+    assert_eq!((host.text(file).as_deref(), overlay.requests()), (Some("Jello!"), 0));
+    overlay.ask(Event::Close(file)).unwrap();
+    assert_eq!(overlay.replace(file, 0, 0, "x"), Err(Error::Edit(Refusal::NotOpen)));
+    overlay.ask(Event::Exit).unwrap();
+    assert_eq!(overlay.replace(file, 0, 0, "x"), Err(Error::Edit(Refusal::Exited)));
+    overlay.bring_event(Event::Snarf(file)).unwrap();
+    assert_eq!((overlay.requests(), overlay.act_next()), (2, Ok(Turn::NotYet))); // it acts beside them
+}
+
 /// A frame by which the host says that so many runes come in at a place of file 1, and that it has seen so many messages.
 fn grown(seen: u64, place: u32, count: u32) -> Vec<u8> {
     let mut frame = vec![70, 0, 18];
@@ -110,7 +158,7 @@ fn runes_without_room_come_back() {
     overlay.bring(&grown(sent, 2, 999_995)).unwrap();
     overlay.step().unwrap();
     assert_eq!(overlay.drop_next(file), Err(Error::Waiting));
-    while overlay.splices().count() > 0 || overlay.step() != Ok(TermStep::Idle) {}
+    while overlay.splices().count() > 0 || overlay.step() != Ok((TermStep::Idle, None)) {}
     assert_eq!((overlay.first_gap(file, 0), overlay.first_gap(file, 999_997)), (Some(2), None));
     assert_eq!(overlay.put_next(file), Err(Error::Edit(Refusal::TooLong)));
     let dropped = Dropped {
