@@ -1,6 +1,6 @@
 //! The numbers of requests.
 
-ghost use Rattle.std.specs.Prelude.{◌≡◌, ◌<◌, ◌^◌, ◌-◌, ◌==◌};
+ghost use Rattle.std.specs.Prelude.{◌≡◌, ◌<◌, ◌^◌, ◌-◌, ◌==◌, false};
 ghost use Rattle.sam_overlay.specs.Numbers.{after_asking, after_telling, is_due, is_outcome, no_numbers, number_of, told_number};
 
 use crate::shown_change::Asked;
@@ -37,7 +37,8 @@ impl RequestNumbers {
 
     /// Returns whether 2^64-1 requests were taken, so that no other gets a number.
     pub fn is_full(&self) -> bool
-        ensures { result ≡ (self.now.taken == 2 ^ 64 - 1) }
+        ensures full { result ≡ (self.now.taken == 2 ^ 64 - 1) }
+        ensures room { result ≡ false → self.now.taken < 2 ^ 64 - 1 }
     {
         self.taken == u64::MAX
     }

@@ -103,7 +103,9 @@ impl ShownEnd {
         if self.numbers.is_full() {
             return Err(AskFault::CountFull);
         }
-        let asked = self.ordered.ask(event)?;
-        Ok(self.numbers.number(asked, self.ordered.waiting()))
+        match self.ordered.ask(event) {
+            Ok(asked) => Ok(self.numbers.number(asked, self.ordered.waiting())),
+            Err(why) => Err(why),
+        }
     }
 }
