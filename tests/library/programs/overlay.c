@@ -236,10 +236,10 @@ static void typed_under_a_lock(void)
 
 /* ---- Requests ---- */
 
-static sam_status asks(sam_overlay *overlay, sam_event_kind kind, uint32_t start, uint32_t number, uint64_t *asked)
+static sam_status asks(sam_overlay *overlay, sam_event_kind kind, uint32_t start, uint32_t end, uint64_t *number)
 {
-    sam_event event = {.kind = kind, .start = start, .number = number, .tag = 1};
-    return sam_overlay_ask(overlay, &event, NULL, 0, asked);
+    sam_event event = {.kind = kind, .start = start, .number = end, .tag = 1};
+    return sam_overlay_ask(overlay, &event, NULL, 0, number);
 }
 
 static sam_turn turn(sam_overlay *overlay)
@@ -274,24 +274,24 @@ static void asked_in_order(void)
     sam_host host = SAM_HOST_INIT;
     sam_overlay overlay = SAM_OVERLAY_INIT;
     sam_file file;
-    uint64_t asked = 9;
+    uint64_t number = 9;
     open_both(&host, &overlay, "hello", true);
     WANT(turn(&overlay), SAM_TURN_NOTHING);
     WANT(sam_overlay_replace(&overlay, 1, 5, 5, BYTES("!")), SAM_OK);
-    WANT(asks(&overlay, SAM_EVENT_SELECT, 4, 6, &asked), SAM_OK); /* `o!` */
-    WANT(asked, 1);
-    WANT(asks(&overlay, SAM_EVENT_WRITE, 0, 0, &asked), SAM_OK);
-    WANT(asked, 2);
-    WANT(asks(&overlay, SAM_EVENT_DCLICK, 99, 0, &asked), SAM_OK);
-    WANT(asked, 3);
+    WANT(asks(&overlay, SAM_EVENT_SELECT, 4, 6, &number), SAM_OK); /* `o!` */
+    WANT(number, 1);
+    WANT(asks(&overlay, SAM_EVENT_WRITE, 0, 0, &number), SAM_OK);
+    WANT(number, 2);
+    WANT(asks(&overlay, SAM_EVENT_DCLICK, 99, 0, &number), SAM_OK);
+    WANT(number, 3);
     WANT(sam_overlay_replace(&overlay, 1, 0, 1, BYTES("J")), SAM_OK);
     shows(&overlay, 1, "Jello!");
     wait_requests(&overlay, 3);
     WANT(turn(&overlay), SAM_TURN_NOT_YET); /* the `!` is left to put */
     WANT(put(&overlay), SAM_PUT_EDIT);
-    asked = 9;
-    WANT(asks(&overlay, SAM_EVENT_FLUSH, 0, 0, &asked), SAM_WAITING);
-    WANT(asked, 9);
+    number = 9;
+    WANT(asks(&overlay, SAM_EVENT_FLUSH, 0, 0, &number), SAM_WAITING);
+    WANT(number, 9);
     WANT(turn(&overlay), SAM_TURN_NOT_YET);
     step_tells(&overlay, SAM_STEP_ACTED, 0); /* the edit */
     go_on(&overlay);
@@ -332,15 +332,15 @@ static void asked_for_twice(void)
 {
     sam_host host = SAM_HOST_INIT;
     sam_overlay overlay = SAM_OVERLAY_INIT;
-    uint64_t asked = 0;
+    uint64_t number = 0;
     open_both(&host, &overlay, "hello", true);
     WANT(sam_overlay_replace(&overlay, 1, 5, 5, BYTES("!")), SAM_OK);
-    WANT(asks(&overlay, SAM_EVENT_WRITE, 0, 0, &asked), SAM_OK);
-    WANT(asked, 1);
-    WANT(asks(&overlay, SAM_EVENT_GET_SNARF, 0, 0, &asked), SAM_OK);
-    WANT(asked, 2);
-    WANT(asks(&overlay, SAM_EVENT_WRITE, 0, 0, &asked), SAM_OK);
-    WANT(asked, 1);
+    WANT(asks(&overlay, SAM_EVENT_WRITE, 0, 0, &number), SAM_OK);
+    WANT(number, 1);
+    WANT(asks(&overlay, SAM_EVENT_GET_SNARF, 0, 0, &number), SAM_OK);
+    WANT(number, 2);
+    WANT(asks(&overlay, SAM_EVENT_WRITE, 0, 0, &number), SAM_OK);
+    WANT(number, 1);
     wait_requests(&overlay, 2);
     WANT(event_of(&overlay, SAM_EVENT_SELECT, 1, 0, 1), SAM_OK);
     WANT(turn(&overlay), SAM_TURN_NOT_YET); /* an event is held */
@@ -348,8 +348,8 @@ static void asked_for_twice(void)
     wait_requests(&overlay, 2);
     go_on(&overlay);
     WANT(sam_overlay_replace(&overlay, 1, 6, 6, BYTES("?")), SAM_OK);
-    WANT(asks(&overlay, SAM_EVENT_WRITE, 0, 0, &asked), SAM_OK);
-    WANT(asked, 3);
+    WANT(asks(&overlay, SAM_EVENT_WRITE, 0, 0, &number), SAM_OK);
+    WANT(number, 3);
     WANT(put(&overlay), SAM_PUT_EDIT);
     step_tells(&overlay, SAM_STEP_ACTED, 0);
     go_on(&overlay);
@@ -377,28 +377,28 @@ static void asked_and_refused(void)
     sam_host host = SAM_HOST_INIT;
     sam_overlay overlay = SAM_OVERLAY_INIT;
     sam_event event = {.kind = SAM_EVENT_SET_SNARF};
-    uint64_t asked = 9;
+    uint64_t number = 9;
     open_both(&host, &overlay, "hello", true);
-    WANT(sam_overlay_ask(&overlay, &event, BYTES("\xFF"), &asked), SAM_NOT_TEXT);
+    WANT(sam_overlay_ask(&overlay, &event, BYTES("\xFF"), &number), SAM_NOT_TEXT);
     event.kind = 0;
-    WANT(sam_overlay_ask(&overlay, &event, NULL, 0, &asked), SAM_NONE);
+    WANT(sam_overlay_ask(&overlay, &event, NULL, 0, &number), SAM_NONE);
     event.kind = (sam_event_kind)(SAM_EVENT_PASTE_CMD + 1);
-    WANT(sam_overlay_ask(&overlay, &event, NULL, 0, &asked), SAM_NONE);
-    WANT(asked, 9);
-    for (uint64_t number = 1; number < 1000; number++) {
-        WANT(asks(&overlay, SAM_EVENT_DCLICK, 99, 0, &asked), SAM_OK);
-        WANT(asked, number);
+    WANT(sam_overlay_ask(&overlay, &event, NULL, 0, &number), SAM_NONE);
+    WANT(number, 9);
+    for (uint64_t next = 1; next < 1000; next++) {
+        WANT(asks(&overlay, SAM_EVENT_DCLICK, 99, 0, &number), SAM_OK);
+        WANT(number, next);
     }
     WANT(sam_overlay_replace(&overlay, 1, 0, 0, BYTES("x")), SAM_OK);
-    WANT(asks(&overlay, SAM_EVENT_CLOSE, 0, 0, &asked), SAM_OK);
+    WANT(asks(&overlay, SAM_EVENT_CLOSE, 0, 0, &number), SAM_OK);
     WANT(sam_overlay_replace(&overlay, 1, 9, 0, BYTES("x")), SAM_REFUSAL_NOT_OPEN);
     WANT(sam_overlay_replace(&overlay, 9, 0, 0, BYTES("x")), SAM_REFUSAL_NO_FILE);
-    WANT(asks(&overlay, SAM_EVENT_EXIT, 0, 0, &asked), SAM_TOO_MANY);
-    WANT(asked, 1000);
+    WANT(asks(&overlay, SAM_EVENT_EXIT, 0, 0, &number), SAM_TOO_MANY);
+    WANT(number, 1000);
     WANT(turn(&overlay), SAM_TURN_REQUEST);
     step_tells(&overlay, SAM_STEP_REFUSED, 1);
-    WANT(asks(&overlay, SAM_EVENT_EXIT, 0, 0, &asked), SAM_OK);
-    WANT(asked, 1001);
+    WANT(asks(&overlay, SAM_EVENT_EXIT, 0, 0, &number), SAM_OK);
+    WANT(number, 1001);
     WANT(sam_overlay_replace(&overlay, 1, 9, 0, BYTES("x")), SAM_REFUSAL_EXITED);
     WANT(sam_overlay_replace(&overlay, 9, 0, 0, BYTES("\xFF")), SAM_NOT_TEXT);
     WANT(put(&overlay), SAM_PUT_NOT_FREE);
