@@ -451,8 +451,9 @@ function checkOverlayRequests() {
   overlay.replace(tag, 5, 5, "!");
   same([overlay.ask(EventKind.SELECT, { tag, start: 4, number: 6 }), overlay.ask(EventKind.WRITE, { tag })], [1, 2]);
   same([overlay.ask(EventKind.WRITE, { tag }), overlay.requests], [2, 2]);
+  same(overlay.ask(EventKind.DCLICK, { tag, start: 99 }), 3);
   overlay.replace(tag, 0, 1, "J");
-  same([overlay.ask(EventKind.DCLICK, { tag, start: 99 }), overlay.actNext(), overlay.putNext(tag)], [3, "not yet", "edit"]);
+  same([overlay.actNext(), overlay.putNext(tag)], ["not yet", "edit"]);
   throws("SamError", "WAITING", () => overlay.ask(EventKind.FLUSH));
   same([overlay.step().request, [...overlay.goOn(tag)], overlay.requests, overlay.actNext()], [0, [], 1, "not yet"]);
   host.feed(overlay.takeOut());
