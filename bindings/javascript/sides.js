@@ -11,10 +11,10 @@ const GAP = 2 ** 32 - 1; // a rune that is not loaded
 
 const STEPS = ["idle", "locked", "wrote", "edited", "answered", "received", "acted", "refused"]; // enum sam_step of sulgrevad.h
 
-const DID = 10; // words of 32 bits of a sam_did
+const DID = 12; // words of 32 bits of a sam_did
 
-// A sam_did stands at result(0): its event, its count, its step and why, its start and gone, its came, its tag, its kind, and whether it
-// loads.
+// A sam_did stands at result(0): its event, its request, its count, its step and why, its start and gone, its came, its tag, its kind, and
+// whether it loads.
 const didTag = () => u16(5, 4);
 const didKind = () => u8(5, 6);
 const didLoads = () => u8(5, 7) !== 0;
@@ -345,7 +345,7 @@ export class Terminal extends Stepping(Screened(Side)) {
     }
     const words = module.numbersOut(DID * u64(0));
     return Array.from({ length: u64(0) }, (_, at) => {
-      const [start, gone, came, last] = words.slice(DID * at + 6);
+      const [start, gone, came, last] = words.slice(DID * at + 8);
       return { kind: (last >>> 16) & 0xff, tag: last & 0xffff, change: { start, gone, came } };
     });
   }

@@ -428,7 +428,7 @@ export declare class Terminal extends Side {
   /** Returns the oldest frame that waits, as the step that receives it will say it: its kind, its file or 0, and the place in its text from
    * which on `gone` runes or gaps will give way; null if no frame waits. So a program can read the runes that will go. */
   nextFrame(): { kind: number; tag: number; start: number; gone: number; loads: boolean } | null;
-  /** Makes steps as long as the next frame edits a text, at most `most` and never more than 1,638, and returns their results. All edits are
+  /** Makes steps as long as the next frame edits a text, at most `most` and never more than 1,365, and returns their results. All edits are
    * of one file. None begins before the place `first`, and none ends after the place where the one before it began. So a program can read
    * the runes that go before the call, and the runes that came after it. If no edit was received it throws as `step` does; else the next
    * step does. */
