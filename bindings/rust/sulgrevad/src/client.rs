@@ -1,15 +1,16 @@
 //! The user's side of a session: an overlay, and its line to the host.
 
+use crate::edits::{is_followed, take_edits};
 use crate::line::words_of;
 use crate::link::MOST_NOTE;
 use crate::step::term_step;
 use crate::terminal::shown;
 use crate::{
-    done, part_of_text, short_text, tells, told, whole_text, Dropped, Error, Event, FileState, LineDetails, Refusal, Splice, TermState,
-    TermStep, Tick,
+    done, part_of_text, short_text, tells, told, whole_text, Dropped, Error, Event, FileState, LineDetails, Refusal, Replacement,
+    ShownEdit, Splice, SpliceKind, TermState, TermStep, Tick,
 };
 use std::cell::UnsafeCell;
-use sulgrevad_sys::{self as sys, sam_client, sam_did};
+use sulgrevad_sys::{self as sys, sam_client, sam_client_event, sam_did};
 
 /// What a client tells as it goes on.
 #[derive(Clone, Copy, Debug, PartialEq, Eq)]
@@ -30,6 +31,24 @@ pub enum ClientEvent {
     },
     /// A note came, which [`Client::note`] returns. All frames before it are received.
     Note,
+}
+
+impl ClientEvent {
+    /// Returns the event that the library hands out.
+    fn of(kind: sam_client_event, did: &sam_did) -> ClientEvent {
+        let request = (did.request != 0).then_some(did.request);
+        match kind {
+            sys::SAM_CLIENT_BUSY => ClientEvent::Busy,
+            sys::SAM_CLIENT_STEPPED => ClientEvent::Stepped(term_step(did), request),
+            sys::SAM_CLIENT_REFUSED => ClientEvent::Refused {
+                event: did.event,
+                request,
+                why: Refusal::of(did.why).ok_or(did.why),
+            },
+            sys::SAM_CLIENT_NOTE => ClientEvent::Note,
+            _ => ClientEvent::Idle,
+        }
+    }
 }
 
 /// The user's side of a session in one handle, for a front end whose user never waits, over connections that may break: an overlay, and its
@@ -183,18 +202,28 @@ impl Client {
     pub fn next_event(&mut self, now: u64) -> Result<ClientEvent, Error> {
         let (mut kind, mut did) = (0, sam_did::default());
         done(unsafe { sys::sam_client_next_event(self.at(), now, &mut kind, &mut did) })?;
-        let request = (did.request != 0).then_some(did.request);
-        Ok(match kind {
-            sys::SAM_CLIENT_BUSY => ClientEvent::Busy,
-            sys::SAM_CLIENT_STEPPED => ClientEvent::Stepped(term_step(&did), request),
-            sys::SAM_CLIENT_REFUSED => ClientEvent::Refused {
-                event: did.event,
-                request,
-                why: Refusal::of(did.why).ok_or(did.why),
-            },
-            sys::SAM_CLIENT_NOTE => ClientEvent::Note,
-            _ => ClientEvent::Idle,
-        })
+        Ok(ClientEvent::of(kind, &did))
+    }
+
+    /// Goes on as `next_event` does, but over each step that is an edit of the host's, loads runes, or is an edit of the user's that acted,
+    /// at most 2,048: puts their splices behind those that are in the list, each with the runes that it brought. Returns what is told else,
+    /// whose splices are to be taken; it is `Idle` only if no step was made. That takes less time if there are thousands. Its errors are
+    /// those of `next_event`, in its order; what came before them is in the list then.
+    pub fn step_edits(&mut self, now: u64, into: &mut Vec<ShownEdit>) -> Result<ClientEvent, Error> {
+        let (mut kind, mut did) = (0, sam_did::default());
+        done(take_edits(into, |changes| unsafe {
+            sys::sam_client_step_edits(self.at(), now, changes, &mut kind, &mut did)
+        }))?;
+        if kind != sys::SAM_CLIENT_STEPPED || !is_followed(&did) {
+            return Ok(ClientEvent::of(kind, &did));
+        }
+        // There was no room for the rest of a step.
+        while let Some(splice) = self.next_splice() {
+            let count = if splice.kind == SpliceKind::Went { 0 } else { splice.count };
+            let runes = self.read(splice.tag, splice.place, count as usize).unwrap_or_default();
+            into.push(ShownEdit { splice, runes });
+        }
+        Ok(ClientEvent::Busy)
     }
 
     /// Returns the next change of the shown text by the last step; `None` if none is left.
@@ -227,6 +256,20 @@ impl Client {
     /// request that was asked for before finds them. Its errors are those of [`Overlay::replace`](crate::Overlay::replace), in its order.
     pub fn replace(&mut self, tag: u16, start: u32, end: u32, text: &str) -> Result<(), Error> {
         done(unsafe { sys::sam_client_replace(self.at(), tag, start, end, text.as_ptr(), text.len()) })
+    }
+
+    /// Makes replacements one after another, each as `replace` does, by one call: the places of each are those of the text that the ones
+    /// before it have left. So from the last place to the first, all are places of the text before. Returns how many were made: all, or
+    /// those before one that is refused, for which `replace` says why. Errors, in this order, and none is made then: `NoMemory`; `Waiting`
+    /// if splices are left; what refuses the first one.
+    pub fn replace_each(&mut self, tag: u16, replacements: &[Replacement<'_>]) -> Result<usize, Error> {
+        let ((rows, text), mut made) = (Replacement::lent(replacements), 0);
+        let (count, len) = (rows.len(), text.len());
+        let all = done(unsafe { sys::sam_client_replace_each(self.at(), tag, rows.as_ptr(), count, text.as_ptr(), len, &mut made) });
+        if made == 0 {
+            all?;
+        }
+        Ok(made)
     }
 
     /// Asks for what is no edit. It stands in one order with the edits: it acts as the client goes on, once all edits before it are put,

@@ -43,6 +43,7 @@
 //! ```
 
 mod client;
+mod edits;
 mod error;
 mod host;
 mod line;
@@ -56,6 +57,7 @@ mod step;
 mod terminal;
 
 pub use client::{Client, ClientEvent};
+pub use edits::{Replacement, ShownEdit};
 pub use error::{Error, HostFault, LinkFault, NoteFault, Refusal, ServerFault, StreamFault, TermFault};
 pub use host::Host;
 pub use line::{Line, LineDetails, LineState, Tick};

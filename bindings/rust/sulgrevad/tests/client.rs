@@ -1,8 +1,8 @@
 //! A client: a session over connections that break, what is told, and what is refused.
 
 use sulgrevad::{
-    Client, ClientEvent, Dropped, Error, Event, Host, LineState, Link, LinkFault, Refusal, Role, Splice, SpliceKind, StreamFault, TermStep,
-    Tick, MOST_NOTE,
+    Client, ClientEvent, Dropped, Error, Event, Host, LineState, Link, LinkFault, Refusal, Replacement, Role, ShownEdit, Splice,
+    SpliceKind, StreamFault, TermStep, Tick, MOST_NOTE,
 };
 
 const ID: [u8; 16] = *b"a session's name";
@@ -78,19 +78,43 @@ impl Session {
         count
     }
 
-    fn settle(&mut self) {
+    /// Moves the client's bytes to the host, which answers. Returns how many.
+    fn up(&mut self) -> usize {
         let mut bytes = [0; 4096];
+        let up = self.client.take_out(self.attempt, &mut bytes).unwrap();
+        self.link.feed(self.attempt, &bytes[..up]).unwrap();
+        let count = self.link.take_in(&mut bytes);
+        self.host.feed(&bytes[..count]).unwrap();
+        for piece in self.host.take_out() {
+            self.link.put(&piece).unwrap();
+        }
+        up + count
+    }
+
+    fn settle(&mut self) {
         loop {
             self.go_on();
-            let up = self.client.take_out(self.attempt, &mut bytes).unwrap();
-            self.link.feed(self.attempt, &bytes[..up]).unwrap();
-            let count = self.link.take_in(&mut bytes);
-            self.host.feed(&bytes[..count]).unwrap();
-            for piece in self.host.take_out() {
-                self.link.put(&piece).unwrap();
-            }
-            if self.down() + up + count == 0 {
+            if self.up() + self.down() == 0 {
                 return;
+            }
+        }
+    }
+
+    /// Has all come that the host has, and makes the edits in it in a text, in which `None` stands for a rune that is not loaded. Returns the
+    /// kinds of the frames that are told else.
+    fn take_edits(&mut self, tag: u16, text: &mut Vec<Option<char>>) -> Vec<u8> {
+        while self.up() + self.down() > 0 {}
+        let (mut edits, mut kinds) = (Vec::new(), Vec::new());
+        loop {
+            let told = self.client.step_edits(self.now, &mut edits).unwrap();
+            for edit in edits.drain(..).filter(|edit| edit.splice.tag == tag) {
+                make_edit(text, edit);
+            }
+            assert!(self.client.splices().all(|splice| splice.tag != tag));
+            match told {
+                ClientEvent::Idle => return kinds,
+                ClientEvent::Stepped(TermStep::Received { kind, .. }, _) => kinds.push(kind),
+                _ => (),
             }
         }
     }
@@ -106,6 +130,18 @@ impl Session {
         self.link.put(&frames).unwrap();
         self.down();
     }
+}
+
+/// Makes an edit in a text.
+fn make_edit(text: &mut Vec<Option<char>>, ShownEdit { splice, runes }: ShownEdit) {
+    let (start, count) = (splice.place as usize, splice.count as usize);
+    let gone = if splice.kind == SpliceKind::Came { 0 } else { count };
+    assert_eq!(runes.len(), if splice.kind == SpliceKind::Went { 0 } else { count });
+    text.splice(start..start + gone, runes);
+}
+
+fn replacement(start: u32, end: u32, text: &str) -> Replacement<'_> {
+    Replacement { start, end, text }
 }
 
 #[test]
@@ -156,6 +192,70 @@ fn a_write_has_the_text_that_was_shown() {
         session.client.ask(Event::Search(file)).unwrap();
     }
     assert_eq!(session.client.ask(Event::Search(file)), Err(Error::TooMany));
+}
+
+#[test]
+fn many_replacements_are_one_call() {
+    let (mut session, file) = Session::new("hello");
+    session.client.ask(Event::Write(file)).unwrap();
+    session.go_on();
+    let all = [replacement(4, 5, "𝄞!"), replacement(1, 2, ""), replacement(0, 0, "J")];
+    assert_eq!(session.client.replace_each(file, &all), Ok(3));
+    let beyond = [replacement(0, 1, "H"), replacement(9, 9, "x"), replacement(0, 0, "y")];
+    assert_eq!(session.client.replace_each(file, &beyond), Ok(1));
+    assert_eq!(
+        session.client.replace_each(file, &beyond[1..]),
+        Err(Error::Edit(Refusal::BadPosition))
+    );
+    assert_eq!(
+        (session.client.replace_each(file, &[]), session.client.text(file, 0).as_deref()),
+        (Ok(0), Some("Hhll𝄞!"))
+    );
+    session.grow(0, 1, false);
+    assert!(matches!(session.client.next_event(0), Ok(ClientEvent::Stepped(..))));
+    assert_eq!(session.client.replace_each(file, &all), Err(Error::Waiting));
+    let (mut session, file) = Session::new(&"h".repeat(3000));
+    let all: Vec<_> = (0..3000)
+        .rev()
+        .map(|place| replacement(place, place + 1, if place % 2 == 0 { "" } else { "ö" }))
+        .collect();
+    assert_eq!(session.client.replace_each(file, &all), Ok(3000));
+    session.settle();
+    assert_eq!((session.host.text(file), session.client.has_all()), (Some("ö".repeat(1500)), true));
+}
+
+#[test]
+fn many_edits_come_by_few_calls() {
+    let (mut session, file) = Session::new(&"a line\n".repeat(3000));
+    session.client.ask(Event::Load(file, 0, 21_000)).unwrap();
+    session.client.ask(Event::Work(file)).unwrap();
+    session.settle();
+    let mut text: Vec<_> = session.client.text(file, 0).unwrap().chars().map(Some).collect();
+    session.client.ask(Event::TypeCmd(",x/a/c/ö𝄞/\n")).unwrap();
+    session.go_on();
+    let kinds = session.take_edits(file, &mut text);
+    assert!(kinds.contains(&72) && !kinds.contains(&77) && !kinds.contains(&81), "{kinds:?}");
+    let text: String = text.into_iter().map(Option::unwrap).collect();
+    assert_eq!((session.host.text(file).as_ref(), text.len()), (Some(&text), 36_000));
+}
+
+/// Each rune that is loaded comes once, where what is typed stands between, also where the room of a call ends within a step.
+#[test]
+fn many_loads_come_by_few_calls() {
+    let whole: String = ('a'..='z').cycle().take(512 * 200).collect();
+    let (mut session, file) = Session::new(&whole);
+    session.client.ask(Event::Load(file, 0, 512 * 200)).unwrap();
+    session.go_on();
+    let typed: Vec<_> = (0..200)
+        .rev()
+        .map(|frame| replacement(512 * frame + 256, 512 * frame + 256, "ö"))
+        .collect();
+    assert_eq!(session.client.replace_each(file, &typed), Ok(200));
+    let mut text = session.client.read(file, 0, 1_000_000).unwrap();
+    assert!(text.contains(&None));
+    session.take_edits(file, &mut text);
+    let text: String = text.into_iter().map(Option::unwrap).collect();
+    assert_eq!((session.client.text(file, 0), text.len()), (Some(text), 514 * 200));
 }
 
 #[test]
