@@ -89,9 +89,9 @@ export function u32(number = 0, after = 0) {
   return data().getUint32(Number(RESULTS) + 8 * number + after, true);
 }
 
-/** Makes a result 0, for a call that hands out a count even where it is refused. */
-export function clear(number) {
-  data().setBigUint64(Number(RESULTS) + 8 * number, 0n, true);
+/** Writes a result of 64 bits before a call: 0 for one that hands out a count even where it is refused, or what a struct lends it. */
+export function put(number, value = 0n) {
+  data().setBigUint64(Number(RESULTS) + 8 * number, value, true);
 }
 
 /** Returns a count of 64 bits: exact up to 2^53. */
@@ -117,10 +117,10 @@ export function textOut(length) {
   return textOf(bytesOut(length));
 }
 
-/** Returns the first `count` numbers of 32 bits that a call wrote. */
-export function numbersOut(count) {
+/** Returns the first `count` numbers of 32 bits that a call wrote, so many bytes behind the beginning of its space. */
+export function numbersOut(count, after = 0) {
   const memory = data();
-  return Array.from({ length: count }, (_, at) => memory.getUint32(Number(SPACE) + 4 * at, true));
+  return Array.from({ length: count }, (_, at) => memory.getUint32(Number(SPACE) + after + 4 * at, true));
 }
 
 /** Returns the first `count` sizes of C's that stand at a place. */
@@ -135,6 +135,9 @@ export function bytesOf(text) {
   if (typeof text !== "string") throw new TypeError("a text is a string, or its UTF-8 as a Uint8Array");
   return text.isWellFormed() ? ENCODER.encode(text) : null;
 }
+
+/** The bytes in the place of a text that isn't one, so that the library refuses them. */
+export const NO_TEXT = new Uint8Array([0xff]);
 
 /** Writes a short text into the space that a call is lent, and returns its number of bytes; -1 if it isn't short, or has a lone
  * surrogate. */

@@ -1,11 +1,11 @@
 /* A terminal whose user never waits: the edits that wait are shown over its texts. */
 import { PREFIX, ifAny, isFreed, make, makeOfText, one } from "./held.js";
-import { bytesOf, lend, long, part, result, short, textOf, u16, u32, u64, withRoom } from "./module.js";
+import { NO_TEXT, bytesOf, lend, long, part, result, short, textOf, u16, u32, u64, withRoom } from "./module.js";
 import { Screened, Stepping, Streams } from "./sides.js";
 import { Status, errorOf } from "./status.js";
 
 const EVENT_SIZE = 16; // bytes of a sam_event
-const SPLICES = [undefined, "came", "went", "filled", "emptied"]; // enum sam_splice_kind of sulgrevad.h
+export const SPLICES = [undefined, "came", "went", "filled", "emptied"]; // enum sam_splice_kind of sulgrevad.h
 const PUTS = ["nothing", "not free", "edit"]; // enum sam_put of sulgrevad.h
 const TURNS = ["nothing", "not yet", "request"]; // enum sam_turn of sulgrevad.h
 const AT_REST = ["idle", "locked"];
@@ -44,7 +44,7 @@ function makeOfEvent(side, name, kind, { tag = 0, start = 0, number = 0, version
   [kind, start, number].forEach((word, at) => record.setUint32(4 * at, long(word), true));
   record.setUint16(12, short(tag), true);
   record.setUint16(14, short(version), true);
-  const bytes = bytesOf(text) ?? new Uint8Array([0xff]); // so that the library refuses it
+  const bytes = bytesOf(text) ?? NO_TEXT;
   lend([new Uint8Array(record.buffer), bytes], (places) => {
     if (places === null) throw errorOf(isFreed(side) ? Status.NO_HANDLE : Status.NO_MEMORY);
     make(side, name, ...places, BigInt(bytes.length), ...results);

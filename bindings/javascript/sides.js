@@ -1,7 +1,7 @@
 /* The two sides: what they share with each other, with overlay and client, the host, and the terminal. */
 import { Held, PREFIX, ifAny, isFreed, make, makeOfBytes, makeOfText, one } from "./held.js";
 import * as module from "./module.js";
-import { PIECE, clear, least, lend, long, result, short, size, space, truth, u16, u32, u64, u8 } from "./module.js";
+import { PIECE, least, lend, long, put, result, short, size, space, truth, u16, u32, u64, u8 } from "./module.js";
 import { Status, errorOf } from "./status.js";
 
 const MOST_IN_NAME = 256; // bytes of the longest name
@@ -27,6 +27,11 @@ function range(side, name, tag) {
 function shortText(side, name, room, ...words) {
   make(side, name, ...words, space(), BigInt(room), result(0));
   return module.textOut(u64(0));
+}
+
+/** The text of a rune that a call hands out; `gap` for one that is not loaded. */
+export function shownRune(rune, gap) {
+  return rune === GAP ? gap : String.fromCodePoint(rune);
 }
 
 /** Returns the first runes of a text. */
@@ -187,7 +192,7 @@ export const Screened = (Base) =>
       while (runes.length < most) {
         const room = Math.min(PIECE / 4, most - runes.length);
         make(this, "read", short(tag), place + runes.length, space(), BigInt(room), result(0));
-        for (const rune of module.numbersOut(u32(0))) runes.push(rune === GAP ? null : String.fromCodePoint(rune));
+        for (const rune of module.numbersOut(u32(0))) runes.push(shownRune(rune, null));
       }
       return runes;
     }
@@ -289,7 +294,7 @@ export class Terminal extends Stepping(Screened(Side)) {
   typeText(tag, text) {
     const bytes = module.bytesOf(text);
     if (bytes === null) throw errorOf(isFreed(this) ? Status.NO_HANDLE : Status.NOT_TEXT);
-    clear(0);
+    put(0);
     try {
       makeOfBytes(this, "type_text", [short(tag)], bytes, result(0));
     } catch (error) {

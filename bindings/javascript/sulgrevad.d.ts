@@ -554,6 +554,13 @@ export type EventFields = { tag?: number; start?: number; number?: number; versi
  * closed. Of several by one step each is made in the text that the ones before it left. */
 export type Splice = { kind: "came" | "went" | "filled" | "emptied"; tag: number; place: number; count: number };
 
+/** A change of the shown text of a file with the runes that came or were loaded, in which a sign stands for each that is not loaded; an
+ * empty text for `went`. */
+export type ShownEdit = Splice & { text: string };
+
+/** One of several replacements: the shown runes from the place `start` to the place `end` give way to a text. */
+export type Replacement = { start: number; end: number; text: Text };
+
 /** Runes that an overlay or a client gives back, because the host left no room for them: `count` of them went of the shown text at the
  * place, which is 0 if a later edit had taken them out, and `text` is all of them. */
 export type Dropped = { tag: number; place: number; count: number; text: string };
@@ -931,6 +938,11 @@ export declare class Client extends Clocked {
    * was. Else some of what waited may be done, and nothing is lost: the fault by which the terminal has stopped, at this call or before;
    * CountFull; Unfinished if memory is short: call it again later. */
   nextEvent(now: number): ClientEvent;
+  /** Goes on as `nextEvent` does, but over each step that is an edit of the host's, loads runes, or is an edit of the user's that acted, at
+   * most 1,024: puts their splices behind those that are in the list, each with the runes that it brought, `gap` for one that is not
+   * loaded (U+FFFD if it isn't given). Returns what is told else, whose splices are to be taken; it is `idle` only if no step was made.
+   * That takes less time if there are thousands. Throws as `nextEvent` does; the splices before are in the list then. */
+  stepEdits(now: number, into: ShownEdit[], gap?: string): ClientEvent;
   /** Goes on until nothing moves, and yields what is told, but for `idle` and `busy`, and behind each step the changes of the shown text.
    * Take all: it goes no further than they are taken. Throws as `nextEvent` does. */
   goOn(now: number): Generator<ClientEvent | Splice, void>;
@@ -940,6 +952,11 @@ export declare class Client extends Clocked {
    * what is shown before `start`. They are shown at once, whatever is locked, and go to the host as the client goes on; no request that was
    * asked for before finds them. Throws as `replace` of an overlay does, in its order. */
   replace(tag: number, start: number, end: number, text: Text): void;
+  /** Makes replacements one after another, each as `replace` does, by one call: the places of each are those of the text that the ones
+   * before it have left. So from the last place to the first, all are places of the text before. Returns how many were made: all, or
+   * those before one that is refused, for which `replace` says why. Throws, in this order, and none is made then: RangeError for a place
+   * that can be none; NotText; NoMemory; a SamError with the code WAITING if splices are left; what refuses the first one. */
+  replaceEach(tag: number, replacements: Replacement[]): number;
   /** Returns whether the host has all that the user did, and all notes: nothing waits here, and the host's end of the link has acknowledged
    * all. */
   readonly hasAll: boolean;

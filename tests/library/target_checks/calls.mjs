@@ -104,7 +104,7 @@ const HANDLE_OF = { host: 0, term: 32, link: 64, line: 96, overlay: 128, client:
 // That are compared: of a struct all but what fills it up.
 const OUT_BYTES = {
   ...{ did: 48, state: 68, file: 25, note: 64, record: 32, frame: 28, details: 66 },
-  ...{ splice: 14, effect: 14, bytes16: 16, bytes24: 24, bytes42: 42 },
+  ...{ splice: 14, effect: 14, changes: 48, bytes16: 16, bytes24: 24, bytes42: 42 },
 };
 let baseline = 0n; // how many requests were made when the session began
 part(HANDLES, HANDLES_SIZE).fill(0);

@@ -7,11 +7,16 @@ import { Far } from "./far.mjs";
 const ID = spelled("a session's name");
 const HGROWDATA = 77; // kinds of frames, as docs/reference/PROTOCOL.md has them
 const HGROW = 70;
+const HUNLOCK = 72;
 const HUNLOCKFILE = 75;
 const MOST_WORDS = 65_536;
 const MOST_ANSWERS = 65_536; // bytes that are not acknowledged
 const ANSWER = 11;
 const MOST_WAITING = 1000;
+const MOST_DATA = 512; // runes of a frame
+const MANY = 3000;
+const LONG = 100 * MOST_DATA;
+const UNLOADED = "\ufffe";
 
 /** Goes on, and returns what is told. */
 function told(client) {
@@ -35,11 +40,11 @@ function settle(client, far) {
   return all;
 }
 
-/** A host with one file, and a client that has opened and loaded it. */
-function begun(text) {
+/** A host with one file, and a client that has opened it and loaded so much of it. */
+function begun(text, loaded = 100) {
   const [client, far] = [new Client(ID, false, 1000), new Far(ID, { a: text })];
   client.connected(1000);
-  for (const [kind, fields] of [["OFFER_VERSION", { version: 2 }], ["OPEN", { tag: 1 }], ["LOAD", { tag: 1, number: 100 }]]) {
+  for (const [kind, fields] of [["OFFER_VERSION", { version: 2 }], ["OPEN", { tag: 1 }], ["LOAD", { tag: 1, number: loaded }]]) {
     client.ask(EventKind[kind], fields);
     settle(client, far);
   }
@@ -217,6 +222,81 @@ function checkClientsTakenBack() {
   same([client.len(1), client.waiting(1)], [1_000_000, 0]);
 }
 
+/** Many replacements by one call, one after another: those before one that is refused are made. */
+function checkManyReplacements() {
+  const { client, far } = begun("hello \u{1D11E}");
+  client.ask(EventKind.WRITE, { tag: 1 });
+  told(client);
+  const rows = [[6, 7, ""], [4, 5, "\u{1D11F}!"], [1, 2, spelled("é")], [0, 0, "J"]];
+  const each = (...of) => client.replaceEach(1, of.map(([start, end, text]) => ({ start, end, text })));
+  same([each(...rows), client.text(1)], [4, "Jhéll\u{1D11F}! "]);
+  same([each([0, 1, ""], [8, 9, "x"], [0, 0, "y"]), each(), client.text(1)], [1, 0, "héll\u{1D11F}! "]);
+  throws("EditRefused", "REFUSAL_BAD_POSITION", () => each([8, 9, "x"], [0, 0, "y"]));
+  throws("NotText", "NOT_TEXT", () => each([0, 0, "x"], [0, 0, "\ud834"], [0, 0, "\udd1e"]));
+  throwsPlain(RangeError, () => each([0, 0, "x"], [-1, 0, "y"]));
+  throwsPlain(TypeError, () => each([0, 0, "x"], [0, 0]));
+  const long = Array.from({ length: MANY }, (_, at) => [MANY - at - 1, MANY - at, "x".repeat(at % 3)]);
+  each([0, 7, "m".repeat(MANY)]);
+  same([each(...long), client.text(1)], [MANY, long.map(([, , text]) => text).reverse().join("")]);
+  settle(client, far);
+  same([far.host.text(1), client.hasAll], [client.text(1), true]);
+  client.free();
+  throws("HandleFault", "NO_HANDLE", () => each([0, 0, "x"]));
+}
+
+/** Makes edits in a text of runes, in which null stands for one that is not loaded. */
+function makeEdits(runes, edits) {
+  for (const { kind, tag, place, count, text } of edits.splice(0)) {
+    if (tag !== 1) continue;
+    const came = [...text].map((rune) => (rune === UNLOADED ? null : rune));
+    runes.splice(place, kind === "came" ? 0 : count, ...came);
+    expect(kind !== "filled" || came.length === count, "each rune that is loaded comes");
+  }
+}
+
+/** Has all come that the host has, and goes over the edits in it. Returns what is told else. */
+function takeEdits(client, far, runes) {
+  const [all, edits] = [[], []];
+  client.receive(client.describe(1000).attempt, far.out(), 1000);
+  for (let event = { kind: "busy" }; event.kind !== "idle"; makeEdits(runes, edits)) {
+    event = client.stepEdits(1000, edits, UNLOADED);
+    if (event.did !== null) all.push(event.did.kind, ...[...client.splices()].map(({ tag }) => `splice ${tag}`));
+  }
+  return all;
+}
+
+/** The edits of a command line come by few calls, each with what came: made in a text of one's own they lead to what is shown. */
+function checkManyEdits() {
+  const text = "a line\n".repeat(MANY);
+  const { client, far } = begun(text, text.length);
+  for (const kind of ["OPEN_CMD", "WORK"]) client.ask(EventKind[kind], { tag: 1 });
+  settle(client, far);
+  client.ask(EventKind.TYPE_CMD, { text: ",x/a/c/é\u{1D11E}/\n" });
+  told(client);
+  far.take(client.takeOut(1));
+  const runes = [...text];
+  const kinds = takeEdits(client, far, runes);
+  same([runes.join(""), client.text(1)], [far.host.text(1), far.host.text(1)]);
+  expect(kinds.includes(HUNLOCK) && !kinds.includes(HGROWDATA) && !kinds.includes("splice 1"), `${kinds}`);
+}
+
+/** What is loaded comes so, too, each rune once, where what is typed stands between: also where a call's room ends within a step. */
+function checkManyLoads() {
+  const text = Array.from({ length: LONG }, (_, at) => String.fromCodePoint(97 + (at % 26))).join("");
+  const { client, far } = begun(text, 0);
+  client.ask(EventKind.LOAD, { tag: 1, number: LONG });
+  told(client);
+  const places = Array.from({ length: LONG / MOST_DATA }, (_, at) => at * MOST_DATA + MOST_DATA / 2).reverse();
+  same(client.replaceEach(1, places.map((place) => ({ start: place, end: place, text: "\u{1D11E}" }))), places.length);
+  const runes = client.read(1, 0, 2 * LONG);
+  same(runes.filter((rune) => rune === null).length, LONG);
+  for (let up = client.takeOut(1); up.length > 0; up = client.takeOut(1)) {
+    far.take(up);
+    takeEdits(client, far, runes);
+  }
+  same([runes.join(""), client.firstGap(1)], [client.text(1), null]);
+}
+
 function checkRefusedClient() {
   const { client, far } = begun("hello");
   throwsPlain(RangeError, () => new Client(bytes(15), false, 0));
@@ -281,5 +361,5 @@ function checkClientsMemory() {
 
 export const CLIENT_CHECKS = [
   ...[checkClientsLine, checkRefusedPieces, checkTypedUnderALock, checkClientsReaders, checkSplicesAreTakenFirst],
-  ...[checkClientsTakenBack, checkRefusedClient, checkClientsMemory],
+  ...[checkManyReplacements, checkManyEdits, checkManyLoads, checkClientsTakenBack, checkRefusedClient, checkClientsMemory],
 ];

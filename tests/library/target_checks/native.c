@@ -30,6 +30,7 @@ union out {
     sam_turn turn;
     sam_client_event told;
     sam_effect effect;
+    sam_changes changes;
     uint8_t u8;
     uint16_t u16;
     uint32_t u32;

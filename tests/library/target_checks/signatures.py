@@ -7,15 +7,15 @@ FIELDS = {
     "uint8_t": "u8", "uint16_t": "u16", "uint32_t": "u32", "uint64_t": "u64", "size_t": "size", "bool": "truth", "sam_status": "status",
     "sam_did": "did", "sam_state": "state", "sam_file": "file", "sam_note": "note", "sam_record": "record", "sam_record_frame": "frame",
     "sam_line_details": "details", "sam_splice": "splice", "sam_put": "put", "sam_turn": "turn", "sam_client_event": "told",
-    "sam_effect": "effect",
+    "sam_effect": "effect", "sam_changes": "changes",
 }
 NUMBERS = {"uint16_t": "u16", "uint32_t": "u32", "uint64_t": "u64", "size_t": "size", "bool": "truth"}
 LONG = ("u64", "size")  # those of 64 bits
 ARRAYS = {"SAM_LINK_ID_BYTES": 16, "SAM_LINK_HELLO_BYTES": 42, "SAM_JOURNAL_HEAD_BYTES": 24}
 # Bytes that are compared of what is handed out: of a struct all but those that fill it up.
 OUT = {
-    "did": 48, "state": 68, "file": 25, "note": 64, "record": 32, "frame": 28, "details": 66, "splice": 14, "effect": 14, "bytes16": 16,
-    "bytes24": 24, "bytes42": 42,
+    "did": 48, "state": 68, "file": 25, "note": 64, "record": 32, "frame": 28, "details": 66, "splice": 14, "effect": 14, "changes": 48,
+    "bytes16": 16, "bytes24": 24, "bytes42": 42,
 }
 OUT_ELSE = 8
 ROOMS = {"uint8_t *": 1, "uint32_t *": 4, "sam_place *": 16}  # bytes of each thing that a room is for
