@@ -13,9 +13,7 @@ const MOST_WORDS = 65_536;
 const MOST_ANSWERS = 65_536; // bytes that are not acknowledged
 const ANSWER = 11;
 const MOST_WAITING = 1000;
-const MOST_DATA = 512; // runes of a frame
-const MANY = 3000;
-const LONG = 100 * MOST_DATA;
+const MANY = 600;
 const UNLOADED = "\ufffe";
 
 /** Goes on, and returns what is told. */
@@ -257,39 +255,55 @@ function makeEdits(runes, edits) {
 /** Has all come that the host has, and goes over the edits in it. Returns what is told else. */
 function takeEdits(client, far, runes) {
   const [all, edits] = [[], []];
-  client.receive(client.describe(1000).attempt, far.out(), 1000);
-  for (let event = { kind: "busy" }; event.kind !== "idle"; makeEdits(runes, edits)) {
-    event = client.stepEdits(1000, edits, UNLOADED);
-    if (event.did !== null) all.push(event.did.kind, ...[...client.splices()].map(({ tag }) => `splice ${tag}`));
+  for (let down = far.out(); down.length > 0; down = far.out()) {
+    client.receive(client.describe(1000).attempt, down, 1000);
+    for (let event = { kind: "busy" }; event.kind !== "idle"; makeEdits(runes, edits)) {
+      event = client.stepEdits(1000, edits, UNLOADED);
+      if (event.did !== null) all.push(event.did.kind, ...[...client.splices()].map(({ tag }) => `splice ${tag}`));
+    }
   }
   return all;
+}
+
+/** A session in which the host has been told of a command line that changes the file, whose whole text is loaded. */
+function commanded(text, line) {
+  const { client, far } = begun(text, text.length);
+  for (const kind of ["OPEN_CMD", "WORK"]) client.ask(EventKind[kind], { tag: 1 });
+  settle(client, far);
+  client.ask(EventKind.TYPE_CMD, { text: `${line}\n` });
+  told(client);
+  far.take(client.takeOut(1));
+  return { client, far };
 }
 
 /** The edits of a command line come by few calls, each with what came: made in a text of one's own they lead to what is shown. */
 function checkManyEdits() {
   const text = "a line\n".repeat(MANY);
-  const { client, far } = begun(text, text.length);
-  for (const kind of ["OPEN_CMD", "WORK"]) client.ask(EventKind[kind], { tag: 1 });
-  settle(client, far);
-  client.ask(EventKind.TYPE_CMD, { text: ",x/a/c/é\u{1D11E}/\n" });
-  told(client);
-  far.take(client.takeOut(1));
+  const { client, far } = commanded(text, ",x/a/c/é\u{1D11E}/");
   const runes = [...text];
   const kinds = takeEdits(client, far, runes);
   same([runes.join(""), client.text(1)], [far.host.text(1), far.host.text(1)]);
   expect(kinds.includes(HUNLOCK) && !kinds.includes(HGROWDATA) && !kinds.includes("splice 1"), `${kinds}`);
 }
 
-/** What is loaded comes so, too, each rune once, where what is typed stands between: also where a call's room ends within a step. */
+/** Where the room of a call ends within a step, the rest comes, too: each step but the first has two removals, round what is typed. */
+function checkRoomEndsWithinAStep() {
+  const { client, far } = commanded("ab".repeat(MANY), ",x/ab/d");
+  const places = Array.from({ length: MANY - 1 }, (_, at) => 2 * at + 1).reverse();
+  same(client.replaceEach(1, places.map((place) => ({ start: place, end: place, text: "x" }))), MANY - 1);
+  const runes = [...client.text(1)];
+  takeEdits(client, far, runes);
+  same([runes.join(""), client.text(1)], ["x".repeat(MANY - 1), "x".repeat(MANY - 1)]);
+}
+
+/** What is loaded comes with its runes, also where what is typed stands between. */
 function checkManyLoads() {
-  const text = Array.from({ length: LONG }, (_, at) => String.fromCodePoint(97 + (at % 26))).join("");
-  const { client, far } = begun(text, 0);
-  client.ask(EventKind.LOAD, { tag: 1, number: LONG });
+  const { client, far } = begun("abc".repeat(MANY), 0);
+  client.ask(EventKind.LOAD, { tag: 1, number: 3 * MANY });
   told(client);
-  const places = Array.from({ length: LONG / MOST_DATA }, (_, at) => at * MOST_DATA + MOST_DATA / 2).reverse();
-  same(client.replaceEach(1, places.map((place) => ({ start: place, end: place, text: "\u{1D11E}" }))), places.length);
-  const runes = client.read(1, 0, 2 * LONG);
-  same(runes.filter((rune) => rune === null).length, LONG);
+  client.replace(1, MANY, MANY, "\u{1D11E}");
+  const runes = client.read(1, 0, 4 * MANY);
+  same(runes.filter((rune) => rune === null).length, 3 * MANY);
   for (let up = client.takeOut(1); up.length > 0; up = client.takeOut(1)) {
     far.take(up);
     takeEdits(client, far, runes);
@@ -361,5 +375,6 @@ function checkClientsMemory() {
 
 export const CLIENT_CHECKS = [
   ...[checkClientsLine, checkRefusedPieces, checkTypedUnderALock, checkClientsReaders, checkSplicesAreTakenFirst],
-  ...[checkManyReplacements, checkManyEdits, checkManyLoads, checkClientsTakenBack, checkRefusedClient, checkClientsMemory],
+  ...[checkManyReplacements, checkManyEdits, checkRoomEndsWithinAStep, checkManyLoads],
+  ...[checkClientsTakenBack, checkRefusedClient, checkClientsMemory],
 ];

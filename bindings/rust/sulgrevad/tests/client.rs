@@ -100,8 +100,8 @@ impl Session {
         }
     }
 
-    /// Has all come that the host has, and makes the edits in it in a text, in which `None` stands for a rune that is not loaded. Returns the
-    /// kinds of the frames that are told else.
+    /// Has all come that the host has, and makes its edits in a text, in which `None` stands for a rune that is not loaded. Returns the kinds
+    /// of the frames that are told else.
     fn take_edits(&mut self, tag: u16, text: &mut Vec<Option<char>>) -> Vec<u8> {
         while self.up() + self.down() > 0 {}
         let (mut edits, mut kinds) = (Vec::new(), Vec::new());
@@ -224,38 +224,56 @@ fn many_replacements_are_one_call() {
     assert_eq!((session.host.text(file), session.client.has_all()), (Some("ö".repeat(1500)), true));
 }
 
-#[test]
-fn many_edits_come_by_few_calls() {
-    let (mut session, file) = Session::new(&"a line\n".repeat(3000));
-    session.client.ask(Event::Load(file, 0, 21_000)).unwrap();
+/// Begins a session in which the whole text is loaded, and a command line is asked for that changes it.
+fn commanded(text: &str, line: &str) -> (Session, u16) {
+    let (mut session, file) = Session::new(text);
+    let len = session.client.len(file).unwrap();
+    session.client.ask(Event::Load(file, 0, len)).unwrap();
     session.client.ask(Event::Work(file)).unwrap();
     session.settle();
-    let mut text: Vec<_> = session.client.text(file, 0).unwrap().chars().map(Some).collect();
-    session.client.ask(Event::TypeCmd(",x/a/c/ö𝄞/\n")).unwrap();
+    session.client.ask(Event::TypeCmd(line)).unwrap();
     session.go_on();
+    (session, file)
+}
+
+fn whole(text: Vec<Option<char>>) -> String {
+    text.into_iter().map(|rune| rune.expect("all is loaded")).collect()
+}
+
+#[test]
+fn many_edits_come_by_few_calls() {
+    let (mut session, file) = commanded(&"a line\n".repeat(3000), ",x/a/c/ö𝄞/\n");
+    let mut text: Vec<_> = session.client.text(file, 0).unwrap().chars().map(Some).collect();
     let kinds = session.take_edits(file, &mut text);
     assert!(kinds.contains(&72) && !kinds.contains(&77) && !kinds.contains(&81), "{kinds:?}");
-    let text: String = text.into_iter().map(Option::unwrap).collect();
+    let text = whole(text);
     assert_eq!((session.host.text(file).as_ref(), text.len()), (Some(&text), 36_000));
 }
 
-/// Each rune that is loaded comes once, where what is typed stands between, also where the room of a call ends within a step.
+/// Each step but the first has two removals, round what is typed.
 #[test]
-fn many_loads_come_by_few_calls() {
-    let whole: String = ('a'..='z').cycle().take(512 * 200).collect();
-    let (mut session, file) = Session::new(&whole);
-    session.client.ask(Event::Load(file, 0, 512 * 200)).unwrap();
+fn the_room_of_a_call_may_end_within_a_step() {
+    let (mut session, file) = commanded(&"ab".repeat(1100), ",x/ab/d\n");
+    let typed: Vec<_> = (0..1099).rev().map(|pair| replacement(2 * pair + 1, 2 * pair + 1, "ö")).collect();
+    assert_eq!(session.client.replace_each(file, &typed), Ok(1099));
+    let mut text = session.client.read(file, 0, 9999).unwrap();
+    session.take_edits(file, &mut text);
+    assert_eq!(
+        (session.client.text(file, 0), whole(text)),
+        (Some("ö".repeat(1099)), "ö".repeat(1099))
+    );
+}
+
+#[test]
+fn loads_come_with_their_runes() {
+    let (mut session, file) = Session::new(&"abc".repeat(1000));
+    session.client.ask(Event::Load(file, 0, 3000)).unwrap();
     session.go_on();
-    let typed: Vec<_> = (0..200)
-        .rev()
-        .map(|frame| replacement(512 * frame + 256, 512 * frame + 256, "ö"))
-        .collect();
-    assert_eq!(session.client.replace_each(file, &typed), Ok(200));
-    let mut text = session.client.read(file, 0, 1_000_000).unwrap();
+    session.client.replace(file, 1000, 1000, "ö").unwrap();
+    let mut text = session.client.read(file, 0, 9999).unwrap();
     assert!(text.contains(&None));
     session.take_edits(file, &mut text);
-    let text: String = text.into_iter().map(Option::unwrap).collect();
-    assert_eq!((session.client.text(file, 0), text.len()), (Some(text), 514 * 200));
+    assert_eq!(session.client.text(file, 0), Some(whole(text)));
 }
 
 #[test]
