@@ -2,9 +2,9 @@
 keys/key_queue.py, and what a key does in keys/actions.py."""
 import time
 from collections import deque
-from typing import Callable, Container, Iterable, List, Optional, Sequence, Set, Tuple, Union
+from typing import Callable, Container, Iterable, List, Optional, Sequence, Tuple, Union
 
-from .keys.actions import TOO_LONG, Actions
+from .keys.actions import TOO_LONG, Actions, Pasting
 from .view.colours import Colours
 from .view.window_layout import WindowLayout
 from .files.open_requests import OpenRequests
@@ -18,13 +18,12 @@ from .keys.mouse import Pointer
 from .files.reload import Reload
 from .files.session_files import SessionFiles
 from .text.prefetch import Prefetch
-from sulgrevad import Kind, Note, NoteCode, NoteKind, Refusal, SamError, Status, Terminal
-from .line.stream import Stream
+from sulgrevad import Dropped, Kind, Note, NoteCode, NoteKind, SamError, Status
+from .text.client_terminal import ClientTerminal
 from .text.texts import COMMAND, COMMAND_NAME, Texts
 from .text.undo import Undo
-from .text.undo_store import UndoStore
 from .keys.key_queue import BUSY, LEAVING, REST, Pressed, KeyQueue, last_of
-from .line.delivery import Delivery
+from .line.lateness import Lateness
 from .line.persistent_session import PersistentSession
 
 
@@ -48,10 +47,10 @@ WHY = {
 
 
 class Editor(WindowLayout, KeyQueue, Actions):
-    """The terminal with its windows. Keys come in by `take`, bytes of the host by `feed`, its messages and lines by `hear`."""
+    """The terminal with its windows. Keys come in by `take`, what the host said by `go_on`, messages and lines by `hear`."""
 
     def __init__(
-        self, terminal: Terminal, line: PersistentSession, clock: Callable[[], float] = time.monotonic, indents: bool = True,
+        self, terminal: ClientTerminal, line: PersistentSession, clock: Callable[[], float] = time.monotonic, indents: bool = True,
         asked_for: Optional[Sequence[str]] = (), keys: KeySet = SAM,
     ):
         super().__init__(Texts(terminal))
@@ -61,19 +60,18 @@ class Editor(WindowLayout, KeyQueue, Actions):
         # The names that the files have whose paths the user gave; None where he goes on with a session.
         self.asked_for = None if asked_for is None else {shown_name(path) for path in asked_for}
         self.session_files = SessionFiles(terminal)
-        self.way, self.notes = Delivery(terminal, line, clock), Notes(clock, self.hint)
-        self.vault = UndoStore(terminal, self.texts)
-        self.log, self.numbers, self.keeping = Undo(terminal, self.texts, self.vault), Numbers(self.texts), UnsavedTexts(self)
+        self.way, self.notes = Lateness(terminal, line, clock), Notes(clock, self.hint)
+        self.log, self.numbers, self.keeping = Undo(terminal, self.texts), Numbers(self.texts), UnsavedTexts(self)
         self.left, self.slices, self.joining, self.reloading = Recovery(self), Prefetch(self), OpenRequests(self), Reload(self)
         told = {Kind.HCLOSE: self._meet_close, Kind.HMOVETO: self._meet_move, Kind.HSETDOT: self._meet_dot}
         known = self.session_files
         told.update({Kind.HNEWNAME: known.add, Kind.HMOVNAME: known.rename, Kind.HDELNAME: known.drop})
         told.update({Kind.HBINDNAME: known.touch, Kind.HDIRTY: known.touch})
-        settled = {Kind.HUNLOCK: self._meet_unlock, Kind.HUNLOCKFILE: self._meet_pasted}
         self.colours = Colours(self.name, tell=lambda line: self.notes.keep(1, line))
-        self.stream = Stream(terminal, self.texts, told, settled)
-        hear = self.log.hear, self.numbers.hear, self.keeping.hear_changes, self.hear_changes, self.hear_run, self.colours.hear
-        self.texts.listeners = [*hear]
+        terminal.told, terminal.settled = told, {Kind.HUNLOCK: self._meet_unlock, Kind.HSETSNARF: self.meet_snarf}
+        terminal.give_back, terminal.refuse = self._take_back, self._tell_refusal
+        hear = self.log.hear, self.numbers.hear, self.keeping.hear_changes, self.hear_changes, self.hear_pasting, self.colours.hear
+        self.texts.listeners, self.texts.host_listeners = [*hear], [self.hear_run]
         self.pointer, self.menu, self.help = Pointer(self), None, None  # the help lies over all else
         self.is_lost = self.is_leaving = self.is_over = self.has_begun = False
         self.leaves_alone = False  # the user leaves, and the host has not answered that
@@ -91,8 +89,8 @@ class Editor(WindowLayout, KeyQueue, Actions):
         self._sought_above: Optional[Tuple[int, int]] = None  # from where a search above goes on, and how much it loads next
         self._answered = ""  # the question that the key which acts now answers
         self._snarfed = ""  # what was cut or copied last, as far as it was loaded
-        self.cut_text = ""  # the same if it was cut, and the host has not pasted it since
-        self._pasting: Set[int] = set()  # the files into which the host pastes
+        self.cut_text = ""  # the same if it was cut, and not pasted since
+        self.pasting: Optional[Pasting] = None  # what the host is asked for
         self._sought: Optional[Tuple[int, int]] = None  # the file and the line that the host was told to select
         self._is_command_asked_for = False  # the host opens the command file, or has
         self._shown_at: Optional[float] = None  # when the first text showed
@@ -170,10 +168,9 @@ class Editor(WindowLayout, KeyQueue, Actions):
         """The first event: the host tells the names of its files."""
         self.terminal.offer_version(2)
 
-    def feed(self, data: bytes = b"") -> None:
-        self.stream.feed(data)
-        if data:
-            self.way.hear()
+    def go_on(self, until: Optional[float] = None) -> bool:
+        """Goes on with what the host said and with what waits here, up to a time. Returns whether all of that is done."""
+        return self.terminal.go_on(until)
 
     def hear(self, told: Union[str, Note]) -> None:
         """A line of standard error, or a message of the host. What that says of a text stays on the screen until it is read."""
@@ -182,6 +179,8 @@ class Editor(WindowLayout, KeyQueue, Actions):
         elif told.kind in ANSWERS:
             if told.kind == NoteKind.ANEW:
                 self.session_files.hide(told.number)
+                if self.has_begun:
+                    self.left.note_hidden([told.number])
             if not self.reloading.meet(told):
                 self.joining.meet(told)
         elif told.kind == NoteKind.DATED:
@@ -221,6 +220,10 @@ class Editor(WindowLayout, KeyQueue, Actions):
         self._ask(self.keeping.question(tag), Key(self.keys.of("write")))
         return True
 
+    def _take_back(self, dropped: Dropped) -> None:
+        """Runes come back for which the host left no room."""
+        self.give_back(dropped.text, f"{self.name(dropped.tag)} has no room for what was typed there, as the host put more in")
+
     def give_back_typed(self, why: str) -> None:
         """What was typed for a file that doesn't come is put in nowhere: `^V` has it, or else a file here."""
         typed = self.typed_in(None)
@@ -241,26 +244,18 @@ class Editor(WindowLayout, KeyQueue, Actions):
         for memory in (self.log, self.numbers, self.keeping, self.left, self.colours):
             memory.drop(tag)
         self.reloading.forget(tag)
-        self._pasting.discard(tag)
 
     def _meet_move(self, tag: int) -> None:
         self.window_of(tag).follow()
 
     def _meet_dot(self, tag: int) -> None:
+        self.hear_dot(tag)
         if self._sought is not None and self._sought[0] == tag:
             self.numbers.set(tag, self.terminal.dot(tag)[0], self._sought[1])
 
     def _meet_unlock(self, _tag: int) -> None:
         self._sought, self._aside = None, ""
         self.end_run()
-
-    def _meet_pasted(self, tag: int) -> None:
-        """The host has answered what locked a file. What it has pasted it has selected: the caret goes after that."""
-        if tag in self._pasting:
-            self._pasting.remove(tag)
-            self.cut_text = ""
-            window = self.window_of(tag)
-            window.select(window.dot[1])
 
     @property
     def is_answer_due(self) -> bool:
@@ -271,7 +266,7 @@ class Editor(WindowLayout, KeyQueue, Actions):
         """The user pauses: sends what was typed. While he types nothing new is waited for, and to ask would cost each key a call."""
         if self.way.line.expects or self.clock() - self._edited_at >= BUSY:
             self.way.line.expect(self.is_answer_due)
-        self.way.send()
+        self.terminal.flush()
 
     def has_command_file(self) -> bool:
         """Whether the command file is open. If not, the host is asked for it, unless its answers are late: no key acts for that round
@@ -307,9 +302,6 @@ class Editor(WindowLayout, KeyQueue, Actions):
         if self.is_lost:
             return
         self.is_lost = self.texts.is_final = True
-        for window in self.windows:
-            window.ahead = None
-        self.vault.stop()
         self.kept_here = self.keeping.keep_here(self.way.has_all)
         self.go_to(self.shown_focus)
         self.deferred.clear()
@@ -322,7 +314,6 @@ class Editor(WindowLayout, KeyQueue, Actions):
         """Shows the first file, and a file that was made; drops the windows of files that were closed."""
         if not self.has_begun and not self.terminal.command_locked:
             hidden = sorted(filter(self.terminal.is_known, self.session_files.hidden))
-            self.vault.find(hidden)
             self.left.find(hidden)
             self._begin_with(self.tags)
         known = self.tags
@@ -362,7 +353,7 @@ class Editor(WindowLayout, KeyQueue, Actions):
         return len(known) != len(asked_for) and any(told not in asked_for for told in self.session_files.names)
 
     def update(self) -> None:
-        """After keys or bytes: files that came or went, keys that waited, refusals, what the windows show."""
+        """After keys or bytes: files that came or went, keys that waited, what the windows show."""
         now = self.clock()
         lefts = () if self.is_lost else (self._left(self._edited_at, BUSY, now), self._left(self._pressed_at, REST, now))
         self._asks_at = [now + left for left in lefts if left > 0]
@@ -371,27 +362,17 @@ class Editor(WindowLayout, KeyQueue, Actions):
             self.joining.go_on()
             self.reloading.go_on()
             self._awaits_file = self._awaits_file and self.is_lock_held
-            self._go_on_with_vault()
             self._act_in_order()
-            for refusal in self.terminal.refusals():
-                self._tell_refusal(refusal)
             self.left.go_on()
             self.keeping.go_on()
             self.update_windows()
             self._use_rest()
-            self._look_ahead()
         elif self.is_lost:
             self.update_windows()
         is_time = self._leaves_at is not None and now >= self._leaves_at
         goes = is_time or (self.is_leaving and self.way.silence >= SECONDS_TO_END)
         self.leaves_alone = goes and not self.is_lost and not self.terminal.exited
         self.is_over = self.is_over or self.terminal.exited or goes
-
-    def _go_on_with_vault(self) -> None:
-        self.vault.go_on()
-        if self.vault.has_lost_copied and not self.vault.is_busy:
-            self.vault.has_lost_copied, self._snarfed = False, ""
-            self.message = "what was copied or cut last is lost: the host had no room to keep it beside what came back"
 
     def update_windows(self) -> None:
         is_busy, rests = self.is_busy, self.rests
@@ -413,8 +394,8 @@ class Editor(WindowLayout, KeyQueue, Actions):
             waits.append(self._leaves_at - now)
         return min((max(0.0, wait) for wait in waits if wait is not None), default=None)
 
-    def _tell_refusal(self, refusal: Refusal) -> None:
-        self.message = WHY.get(refusal.why, str(refusal.why))
+    def _tell_refusal(self, why: Status) -> None:
+        self.message = WHY.get(why, str(why))
 
     # ---- What comes from the user
 
@@ -447,6 +428,8 @@ class Editor(WindowLayout, KeyQueue, Actions):
         except Exception:  # a fault of this program ends it
             self.keeping.typed_late += self.texts.left
             raise
+        if self.terminal.exited:
+            self.keeping.typed_late += self.texts.left
         self._answered = ""
         if self._again is not None:
             again = pressed._replace(key=self._again, answers="", has_read=False, is_again=True)

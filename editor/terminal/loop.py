@@ -3,22 +3,21 @@
 What the user does goes one way: keys, the terminal, the link, the host, the link, the terminal, the screen.
 """
 import contextlib
-import functools
 import gc
 import os
 import select
 import signal
 import time
 from collections import deque
-from typing import Callable, Deque, Dict, Iterable, Iterator, List, Optional
+from typing import Callable, Deque, Dict, List, Optional
 
 from .keys.decoder import Decoder
 from .editor import Editor
-from .text.cached_terminal import CachedTerminal
+from .text.client_terminal import ClientTerminal
 from .keys.bindings import Input
 from .line.host_process import poll_of, polled
 from .view.status_line import printable
-from .line.persistent_session import Item, PersistentSession
+from .line.persistent_session import PersistentSession
 from sulgrevad import SamError
 from .view.screen import Screen, sequences
 
@@ -28,7 +27,6 @@ SCREENS = (signal.SIGWINCH, signal.SIGCONT, signal.SIGTSTP)
 RETRY = 0.1  # seconds until that for which the memory was too small is tried again
 LONGEST_UNDRAWN = 0.05  # seconds of an answer that comes without a pause, after which what has come is drawn
 LONGEST_AT_ONCE = 0.01  # seconds that may be worked on what has come before it is looked for keys
-MOST_FED = 16_384  # bytes of that which are taken at once: of frames that tell names, which take longest, that is some 15 milliseconds
 MOST_READ = 65_536  # bytes of keys that are read at once
 # Objects that are made and not freed until it is looked which of them only lead to themselves: a key that comes then waits for that, some
 # 5 milliseconds.
@@ -45,11 +43,11 @@ class HeldUp(Exception):
 class Loop:
     """One session at a screen."""
 
-    def __init__(self, terminal: CachedTerminal, link: PersistentSession, screen: Screen, editor: Editor, hear: Callable[[Item], None]):
+    def __init__(self, terminal: ClientTerminal, link: PersistentSession, screen: Screen, editor: Editor, hear: Callable[[str], None]):
         self.terminal, self.link, self.screen, self.editor, self.hear = terminal, link, screen, editor, hear
         self.decoder = Decoder(sequences())
         self.keys: Deque[Input] = deque()  # those that the editor has not taken
-        self._came: Deque[Item] = deque()  # what has come of the link, and was not taken yet
+        self._is_behind = False  # not all of what has come is done
         self.is_short = False  # memory was too small since the last pause
         self.ended_by = 0  # the signal that ended the session
         self.drawn_at = 0.0  # when what had come was drawn, or there was nothing more to draw
@@ -78,7 +76,8 @@ class Loop:
             if self.ended_by:  # what came of a paste
                 self._act_on(self.decoder.finish(time.monotonic()))
         except HeldUp:
-            pass
+            signal.signal(signal.SIGPROF, signal.SIG_IGN)
+            self.terminal.read_anew()
         finally:
             signal.signal(signal.SIGPROF, signal.SIG_IGN)
             self._take_rest()
@@ -96,7 +95,7 @@ class Loop:
         quiet_at, self._quiet_at = self._quiet_at, 0.0
         since = quiet_at or time.monotonic()
         ready = {} if quiet_at else self._ready(0)
-        if not ready and not self._came:
+        if not ready and not self._is_behind:
             self.editor.notes.settle(since)
             ready = self._sleep(self._idle())
             self.drawn_at = time.monotonic()
@@ -104,7 +103,7 @@ class Loop:
             self._idle()
             self.drawn_at = time.monotonic()
         self._is_updated = False
-        if self._take_keys(ready) and (self._came or len(ready) > 1):  # what they do shows before more is taken
+        if self._take_keys(ready) and (self._is_behind or len(ready) > 1):  # what they do shows before more is taken
             self._idle()
             self.drawn_at = time.monotonic()
         self._take_signals(ready)
@@ -129,12 +128,12 @@ class Loop:
     def _idle(self) -> Optional[float]:
         """Before it sleeps: sends what was typed, and draws. Returns how many seconds it may sleep; None where that has no end."""
         self.is_short = False
-        if self.editor.stream.is_waiting:
-            self._do(self.editor.feed)
         if not self._is_updated:
             self._do(self.editor.update)
+        deeds = self.terminal.deeds
         if not self.editor.is_lost:
             self._do(self.editor.pause)
+            self._do(self._go_on)
         self._send()
         # Before it draws: what ends in between is drawn then.
         waits = [self.editor.wakes_in(), self.link.delay(), self.decoder.delay(time.monotonic())]
@@ -144,6 +143,8 @@ class Loop:
         self.editor.notes.drawn()
         self._write_here()
         waits.append(self.editor.notes.left)
+        if self._is_behind or deeds != self.terminal.deeds:  # which the editor looks at before it sleeps
+            waits.append(0.0)
         if self.is_short:
             waits.append(RETRY)
         if gc.get_count()[0] > MOST_UNCOLLECTED and self.editor.rests:
@@ -251,46 +252,34 @@ class Loop:
 
     def _take_bytes(self, ready: Dict[int, int]) -> None:
         """Takes what has come, as much of it as leaves a key time; the rest once it was looked for keys."""
-        if not self._came:
-            self._came.extend(pieces_of(self.link.take(ready)))
-        until = time.monotonic() + LONGEST_AT_ONCE
-        while self._came:
-            item = self._came.popleft()
-            self._take(item)
-            has_time = time.monotonic() < until
-            if isinstance(item, bytes) and not (has_time and self._came and isinstance(self._came[0], bytes)):
-                self._update()
-            if not has_time:
-                break
-        if self.link.is_lost and not self._came and not self.editor.is_over:
+        for line in self.link.take({} if self._is_behind else ready):
+            self._is_updated = False
+            self.hear(line)
+        deeds, self._is_behind = self.terminal.deeds, False
+        if not self.editor.is_lost:
+            self._do(self._go_on)
+        if deeds != self.terminal.deeds:
+            self._update()
+        if self.link.is_lost and not self._is_behind and not self.editor.is_over:
             self._is_updated = False
             self.editor.lose(self.link.why)
 
-    def _take(self, item: Item) -> None:
-        self._is_updated = False
-        if isinstance(item, bytes):
-            self._do(functools.partial(self.editor.feed, item))
-        else:
-            self.hear(item)
+    def _go_on(self) -> None:
+        self._is_behind = not self.editor.go_on(time.monotonic() + LONGEST_AT_ONCE)
 
     def _update(self) -> None:
         """Bytes have come. Where nothing is left to be done by that, it need not be looked for that again before it sleeps."""
         deeds = self.terminal.deeds
         self._do(self.editor.update)
-        self._is_updated = deeds == self.terminal.deeds and not (self.editor.deferred or self.is_short)
+        self._is_updated = deeds == self.terminal.deeds and not (self.editor.deferred or self.is_short or self._is_behind)
 
     def _take_rest(self) -> None:
         """The session is over: takes what has come and was not taken yet, since it says what has arrived."""
-        came, self._came = self._came, deque()
-        for item in came:
-            with contextlib.suppress(Exception):  # whatever goes wrong, the texts are kept
-                if not isinstance(item, bytes):
-                    self.hear(item)
-                elif not self.editor.is_lost:
-                    self.editor.feed(item)
+        with contextlib.suppress(Exception):  # whatever goes wrong, the texts are kept
+            self.editor.go_on()
 
     def _send(self) -> None:
-        self.link.send(self.terminal.take_out())
+        self.link.send(self.terminal.deeds)
 
     def _do(self, action) -> None:
         """Does something that the terminal may refuse. Memory may be too small for a while: it is tried again, and goes on with what
@@ -298,16 +287,7 @@ class Loop:
         try:
             action()
         except MemoryError as error:
-            self.is_short = True
+            self.is_short = self.link.has_out = True
             self.editor.message = f"there is not enough memory ({error})"
         except SamError as error:
             self.editor.lose(f"the host's stream is wrong ({error})")
-
-
-def pieces_of(items: Iterable[Item]) -> Iterator[Item]:
-    """What has come, with bytes in pieces that take no key's time."""
-    for item in items:
-        if isinstance(item, bytes):
-            yield from (item[at : at + MOST_FED] for at in range(0, len(item), MOST_FED))
-        else:
-            yield item

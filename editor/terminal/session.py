@@ -6,19 +6,19 @@ import shlex
 import signal
 import sys
 from collections import deque
-from typing import Deque, Iterable, Optional
+from typing import Deque, Iterable, Optional, Union
 
 from .editor import Editor
 from .start import STATUS_NO_HOST, Wish
-from .text.cached_terminal import CachedTerminal
+from .text.client_terminal import ClientTerminal
 from .keys.bindings import SAM
 from .view import layout
 from .line.host_process import SECONDS_OF_SILENCE, SECONDS_TO_END
 from .loop import KEYBOARD, Loop
 from .view.status_line import printable, words_of
 from .view.screen import FOOT, Screen
-from .line.persistent_session import Item, PersistentSession
-from sulgrevad import SamError, Terminal
+from .line.persistent_session import PersistentSession
+from sulgrevad import Note, SamError
 
 TOO_OLD = "that samhost is too old: both have to be of one release"
 MOST_TOLD = 1_000  # lines of the host that are told again at the end, the last ones
@@ -39,11 +39,13 @@ def say_all(lines: Iterable[str]) -> None:
 class Session:
     """The terminal, the editor and the link to the host."""
 
-    def __init__(self, terminal: Terminal, link: PersistentSession, editor: Editor):
+    def __init__(self, terminal: ClientTerminal, link: PersistentSession, editor: Editor):
         self.terminal, self.link, self.editor = terminal, link, editor
-        self.told: Deque[Item] = deque(maxlen=MOST_TOLD)  # what the host told while the screen hid standard error
+        self.told: Deque[Union[str, Note]] = deque(maxlen=MOST_TOLD)  # what the host told while the screen hid standard error
         self.ended_by = 0
         self.has_colours = False
+        self.wrong = ""  # what is wrong with the host's stream
+        terminal.hear = self._hear_note
 
     def begin(self) -> bool:
         """Waits for the host's stream, and asks for the first file while there is no screen yet. Returns whether the stream comes; why not
@@ -51,45 +53,47 @@ class Session:
         columns, rows = os.get_terminal_size(KEYBOARD)
         self.editor.arrange(max(1, rows - FOOT), columns)
         self.editor.begin()
-        self.link.send(self.terminal.take_out())
-        is_there = self.link.wait_for_stream(self._hear_early)
+        is_there = self.link.wait_for_stream(self._hear_early, self._begins) and not self.wrong
         for line in self.link.noise:
             say(f"samterm: the host's command printed: {line}")
-        for item in self.link.take_early() if is_there else []:
-            if isinstance(item, bytes):
-                is_there = is_there and self._takes(item)
-            else:
-                self._hear(item)
+        if self.wrong:
+            say(f"samterm: the host's stream is wrong ({self.wrong})")
         if is_there and self.link.noise:
             self.editor.notes.keep(1, f"the host's command printed: {self.link.noise[-1]}")
         return is_there
 
-    def _takes(self, data: bytes) -> bool:
+    def _begins(self) -> bool:
+        """Goes on with what has come. Returns whether the host's stream has begun."""
         try:
-            self.editor.feed(data)
+            self.editor.go_on()
             self.editor.update()
-            self.link.send(self.terminal.take_out())
+            self.editor.go_on()
         except MemoryError:
             pass  # the loop does it again
         except SamError as error:
-            say(f"samterm: the host's stream is wrong ({error})")
-            return False
-        return True
+            self.wrong = str(error)
+            return True
+        return self.terminal.has_begun
 
     def _hear_early(self, line: str) -> None:
         say(line)
         self.editor.hear(line)
 
-    def _hear(self, told: Item) -> None:
+    def _hear_note(self, data: bytes) -> None:
+        note = self.link.meet(data)
+        if note is not None:
+            self._hear(note)
+
+    def _hear(self, told: Union[str, Note]) -> None:
         if words_of(told):
             self.told.append(told)
         self.editor.hear(told)
 
-    def _take_last(self, data: bytes) -> None:
+    def _take_last(self) -> None:
         """The screen is closed, and the host's answers still say what has arrived. Whatever goes wrong with them, the texts are kept."""
         with contextlib.suppress(Exception):
             if not self.editor.is_lost:
-                self.editor.feed(data)
+                self.editor.go_on()
 
     def run(self) -> None:
         """The user edits. An exception ends the session as well, and is raised again once all is told."""
@@ -178,10 +182,11 @@ class Session:
     def _end_link(self) -> Optional[int]:
         """Sends what was typed, and waits for the host's end. Returns its status; None where it doesn't end, or the user doesn't wait."""
         with contextlib.suppress(SamError):  # of a terminal that has stopped, or has no memory
+            self.terminal.flush()
             try:
-                self.editor.way.send()
+                self.editor.go_on()
             finally:
-                self.link.send(self.terminal.take_out())
+                self.link.send()
         with contextlib.suppress(KeyboardInterrupt):  # the user doesn't wait for the host any longer
             try:
                 signal.signal(signal.SIGINT, signal.default_int_handler)
@@ -205,7 +210,8 @@ class Session:
 def run_session(wish: Wish, link: PersistentSession) -> int:
     """Edits over a link to a host that has begun. Returns the exit status."""
     layout.TAB = wish.shows.tab
-    with CachedTerminal() as terminal:
+    with link.client:
+        terminal = ClientTerminal(link.client)
         editor = Editor(terminal, link, indents=wish.indents, asked_for=None if wish.takes_over else wish.files, keys=wish.keys)
         editor.has_numbers, editor.has_details = wish.shows.numbers, wish.shows.details
         session = Session(terminal, link, editor)

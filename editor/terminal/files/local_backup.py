@@ -9,12 +9,11 @@ from itertools import chain
 from pathlib import Path
 from typing import Callable, Collection, Dict, Iterator, List, Optional, Set, Tuple
 
-from sulgrevad import Terminal
-from ..text.texts import GAP, Change
+from ..text.client_terminal import ClientTerminal
+from ..text.texts import GAP
 
 MOST_NAMES = 1000  # names that are tried
 MOST_IN_BASE = 200  # bytes of the front of a name that names of files here begin with
-MOST_READ = 65_536  # runes that are read at once
 MOST_BYTES = 4_194_304  # of such a file that is read: a text has less
 
 NEW = ".new"  # ends the name of such a file while it is written again
@@ -33,15 +32,9 @@ MOST_PLACES, MOST_COMPARED = 10_000, 10_000_000  # places that are looked at, an
 host: Tuple[str, ...] = ()  # the host's command
 
 
-def loaded(terminal: Terminal, tag: int, going: Optional[Change] = None) -> str:
-    """An open file's text as far as it is loaded. Each rune is read once, however many stretches are not. What is going stands where it
-    went."""
-    runes: List[str] = []
-    while piece := terminal.read(tag, len(runes), MOST_READ):
-        runes += [rune or GAP for rune in piece]
-    if going is not None and going.tag == tag:
-        runes.insert(going.place, going.gone)
-    return told("".join(runes))
+def loaded(terminal: ClientTerminal, tag: int) -> str:
+    """An open file's text as far as it is loaded."""
+    return told(terminal.runes(tag, 0, terminal.len(tag)))
 
 
 def told(text: str) -> str:

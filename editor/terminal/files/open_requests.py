@@ -6,7 +6,7 @@ from typing import Deque, List, NamedTuple, Optional, Tuple
 
 from ..keys.bindings import Input, Key, Text
 from ..view.menus import Menu
-from sulgrevad import Note, NoteCode, NoteKind, SamError
+from sulgrevad import Note, NoteCode, NoteFault, NoteKind
 
 QUIET = 1.0  # seconds after the last key from which on a file may come up that the user did not ask for
 MOST_WISHES = 64  # that wait; of more the first ones are dropped
@@ -42,7 +42,7 @@ class OpenRequests:
     def ask_names(self, path: str) -> None:
         """Asks for names that complete a path. The answer to the last question counts."""
         self._names_of = self.next_request()
-        with contextlib.suppress(SamError):  # of a path that is too long nothing is known
+        with contextlib.suppress(NoteFault):  # of a path that is too long nothing is known
             self.editor.way.line.put_note(Note(NoteKind.COMPLETE, request=self._names_of, path=os.fsencode(path)))
             self.is_asking = True
 
@@ -58,7 +58,7 @@ class OpenRequests:
         self._open_of = self.next_request()
         try:
             editor.way.line.put_note(Note(NoteKind.OPEN, request=self._open_of, path=os.fsencode(path)))
-        except SamError:
+        except NoteFault:
             editor.message = "the path is too long"
             return True
         self._path, self._opened = path, None

@@ -4,15 +4,14 @@ import os
 import re
 import time
 from collections import deque
-from typing import Deque, Dict, List, NamedTuple, Optional, Tuple, Union
+from typing import Deque, Dict, Iterable, List, NamedTuple, Optional, Set, Tuple, Union
 
 from . import local_backup
 from ..keys.bindings import Input, Key, Mouse, Paste, Text
 from ..view.status_line import printable
-from ..text.texts import COMMAND, MOST_RUNES, Change, Changes
+from ..text.texts import COMMAND, MOST_RUNES
 from ..text.undo import Step
 from ..time_limit import TimeLimit, TooSlow
-from ..view.windows import end_of_load
 
 # The name in the session of a text that the host saved: the tag of its file, 0 for what was cut last; whether it is newer; and when it
 # was saved.
@@ -20,7 +19,6 @@ NAMED = re.compile(r"~~left~~ ([0-9]{1,5}) ([+-]) (.*)")
 MOST_LOOKED_AT = 500  # files of which it is looked at once whether texts of them are here: that takes some 5 milliseconds
 MOST_COMPARED = 1_000  # lines that differ, from the first to the last, of which it is shown how
 LONGEST_COMPARING = 0.5  # seconds of the processor for that
-REACH = 32_768  # runes that are loaded in one round trip
 RELOADS = "Enter puts in what the file has now"
 
 
@@ -47,6 +45,7 @@ class Recovery:
     def __init__(self, editor):
         self.editor, self.terminal = editor, editor.terminal
         self.tags: Dict[int, Old] = {}  # those that the host has
+        self._seen: Set[int] = set()  # the same, also those that were dropped
         self._here: Dict[str, Old] = {}  # those that are here, by their paths
         self._taken: Dict[int, Tuple[List[Old], Step]] = {}  # of a file, what was taken into it and not written yet; and that step of undo
         self._written: List[int] = []  # files that were written since
@@ -62,14 +61,19 @@ class Recovery:
 
     def find(self, hidden: List[int]) -> None:
         """The names of the host's files are known: some of the hidden ones are texts that it saved. Others of the files may be here."""
-        for tag in hidden:
-            found = NAMED.fullmatch(self.terminal.name(tag))
-            if found:
-                self.tags[tag] = Old(int(found[1]), found[3], found[2] == "+", tag=tag)
+        self.note_hidden(hidden)
         self._left_here = local_backup.Left()
         if not self._left_here.is_empty:
             self._unlooked = deque([*self.editor.tags, COMMAND])
             self._look_here()
+
+    def note_hidden(self, hidden: Iterable[int]) -> None:
+        """Hidden files are known, of which the host may tell later than of their names."""
+        for tag in hidden:
+            found = NAMED.fullmatch(self.terminal.name(tag)) if tag not in self._seen and self.terminal.is_known(tag) else None
+            if found:
+                self._seen.add(tag)
+                self.tags[tag] = Old(int(found[1]), found[3], found[2] == "+", tag=tag)
 
     def _look_here(self) -> None:
         """Looks whether texts of files are here, of a few files at once, so that no key waits for that. What is no file's is looked for
@@ -153,11 +157,14 @@ class Recovery:
         if not editor.window_of(tag).is_settled:
             editor.act_again("waits for the file")
             return False
-        text = local_backup.read(old.path) if old.path else ""
+        if not old.path and not (self._is_opened(old) and self._is_loaded(old.tag)):
+            return False
+        text = local_backup.read(old.path) if old.path else self._text_of(old.tag)
         if text is None:
             editor.message = f"{old.path} can't be read"
             return True
-        filled = self._filled(old, text)
+        self._whole = None
+        filled = self._filled(old, text) if old.path else text
         if filled is None or not editor.may_go_whole(tag, "Enter"):
             return False
         if len(filled) > MOST_RUNES:
@@ -171,14 +178,14 @@ class Recovery:
     def _filled(self, old: Old, text: str) -> Optional[str]:
         """A text with what it lacks, from what the host saved of its file, else from the file itself, once the user was told. None where
         the key acts again, or asks."""
-        lacks, self._whole = local_backup.lacking(text), None
+        lacks = local_backup.lacking(text)
         if not lacks:
             return text
         whole = self._newest_of(old.of)
         tag = old.of if whole is None else whole.tag
         if (whole is not None and not self._is_opened(whole)) or not self._is_loaded(tag):
             return None
-        text = local_backup.filled(text, self.editor.texts.read(tag, 0, self.terminal.len(tag)))
+        text = local_backup.filled(text, self._text_of(tag))
         self._whole = None if local_backup.lacking(text) else whole
         source = "the file" if whole is None else "what the host saved"
         if self._warned != old and not self._is_warned(lacks, local_backup.lacking(text), source):
@@ -201,22 +208,19 @@ class Recovery:
         editor.log.begin(tag)
         olds = [old] if self._whole is None else [old, self._whole]  # the text has all of both
         self._taken[tag] = (olds, editor.log.past[tag][-1])
-        if not old.path:
-            editor.vault.bring(old.tag, tag, lambda: None)
-            return
-        gone = editor.texts.read(tag, 0, self.terminal.len(tag))
-        self.terminal.edit(tag, 0, len(gone), text)
-        editor.texts.tell(Changes([Change(tag, 0, gone, text)]))
+        editor.texts.edit(tag, 0, self.terminal.len(tag), text)
         editor.window_of(tag).select(0)
+
+    def _text_of(self, tag: int) -> str:
+        return self.editor.texts.read(tag, 0, self.terminal.len(tag))
 
     def _snarf(self, old: Old) -> bool:
         """Makes a text that was cut the one that `^V` pastes."""
-        if not self._is_opened(old):
+        if not (self._is_opened(old) and self._is_loaded(old.tag)):
             return False
-        length = self.terminal.len(old.tag)
-        self.terminal.select(old.tag, 0, length)
+        self.terminal.select(old.tag, 0, self.terminal.len(old.tag))
         self.terminal.snarf(old.tag)
-        self.editor.note_snarfed(self.editor.texts.read(old.tag, 0, length))
+        self.editor.note_snarfed(self._text_of(old.tag))
         self.editor.message = f"{self.editor.keys.of('paste')} pastes it"
         return True
 
@@ -306,19 +310,16 @@ class Recovery:
             return False
         if not (self._is_loaded(old.of) and (old.path or self._is_loaded(old.tag))):
             return False
-        text = local_backup.read(old.path) if old.path else editor.texts.read(old.tag, 0, self.terminal.len(old.tag))
-        lines = differences(editor.texts.read(old.of, 0, self.terminal.len(old.of)), text or "")
+        text = local_backup.read(old.path) if old.path else self._text_of(old.tag)
+        lines = differences(self._text_of(old.of), text or "")
         editor.menu = Differences(f"- {editor.name(old.of)}   + {self.line(old)}", lines)
         return True
 
     def _is_loaded(self, tag: int) -> bool:
-        """Whether a file is loaded whole. If not, more of it is asked for, and the key acts again."""
-        gap = self.terminal.first_gap(tag)
-        if gap is None:
+        """Whether a file is loaded whole. If not, that is asked for, and the key acts again."""
+        if self.terminal.first_gap(tag) is None:
             return True
-        end = min(self.terminal.len(tag), gap + REACH)
-        self.terminal.load(tag, gap, end_of_load(self.terminal, tag, gap, end) - gap)
-        self.editor.act_again("loads both texts")
+        self.editor.load_all(tag, 0, self.terminal.len(tag), "loads it")
         return False
 
 

@@ -1,12 +1,21 @@
 """Files that another program has changed: the host tells of them, and a key puts in what they have now.
 
-The host reads the file anew as a hidden file of the session, whose text goes in the place of the old one's. Of that nothing crosses the
-line, `^Z` takes it back, and the file counts as written then.
+The host reads the file anew as a hidden file of the session. Its text is loaded, and where it differs goes in the place of the old one's:
+`^Z` takes that back, and the file counts as written then.
 """
 from typing import Dict, List, Optional
 
 from .open_requests import VERSION
 from sulgrevad import Note, NoteKind
+
+
+def common(one: str, other: str) -> int:
+    """How many runes two texts begin with that are the same."""
+    low, high = 0, min(len(one), len(other))
+    while low < high:
+        middle = (low + high + 1) // 2
+        low, high = (middle, high) if one[low:middle] == other[low:middle] else (low, middle - 1)
+    return low
 
 
 class Reload:
@@ -18,11 +27,12 @@ class Reload:
         self._request = 0  # the last one
         self._tag: Optional[int] = None  # the file that is read anew
         self._anew: Optional[int] = None  # its new text, once the host has told it
+        self._is_put_in = False  # that stands in the old one's place
         self._sure_of: Optional[int] = None  # the file of which the user is sure, though it was not written
 
     def meet_changed(self, tag: int, line: str) -> None:
         """The host has told, by a line, that another program changed a file."""
-        line += f"; {self.editor.keys.of('reload')} reloads it" if self.is_there else ""
+        line += f"; {self.editor.keys.of('reload')} reloads it"
         self.changed[tag] = line
         self.editor.notes.keep(1, line)
 
@@ -33,9 +43,9 @@ class Reload:
             self.editor.notes.forget(line)
 
     @property
-    def is_there(self) -> bool:
-        """Whether the host reads files anew."""
-        return self.editor.vault.tag is not None
+    def is_busy(self) -> bool:
+        """Whether a file is read anew, so that keys wait for that."""
+        return self._anew is not None
 
     @property
     def all(self) -> List[int]:
@@ -47,8 +57,8 @@ class Reload:
         """Has the host read a file anew, once the user is sure where it was not written. Returns whether that is done or can't be; else the
         key acts again, or asks."""
         editor = self.editor
-        if not self.is_there or editor.is_alone:
-            editor.message = "no file can be reloaded here" if not self.is_there else "that can be done when the line is back"
+        if editor.is_alone:
+            editor.message = "that can be done when the line is back"
             return True
         if editor.is_lock_held or not editor.window_of(tag).is_settled:
             editor.act_again("waits for the host")
@@ -62,8 +72,8 @@ class Reload:
         if not editor.may_go_whole(tag, key):
             return False
         self._request = editor.joining.next_request()
-        self._tag, self._anew, self._sure_of = tag, None, None
         editor.way.line.put_note(Note(NoteKind.RELOAD, request=self._request, tag=tag))
+        self._tag, self._anew, self._sure_of, self._is_put_in = tag, None, None, False
         self.terminal.offer_version(VERSION)
         editor.await_file()
         return True
@@ -76,29 +86,46 @@ class Reload:
             self._anew = note.number
         else:
             self.editor.notes.keep(1, f"{self.editor.name(self._tag)} is not reloaded: {note.text}")
-            self._tag = None
+            self._tag = self._anew = None
         return True
 
     def go_on(self) -> None:
-        """Puts in what was read anew, once its name has come."""
-        tag, anew = self._tag, self._anew
-        if tag is None or anew is None or self.terminal.command_locked or not self.terminal.is_known(anew):
+        """Opens and loads what was read anew, and puts it in."""
+        tag, anew, terminal = self._tag, self._anew, self.terminal
+        if tag is None or anew is None or self.editor.is_lock_held or not terminal.is_known(anew):
             return
-        self._tag = self._anew = None
-        self.forget(tag)
-        if self.terminal.is_open(tag):
-            place = self.terminal.dot(tag)[0]
-            self.editor.log.begin(tag)
-            self.editor.vault.bring(anew, tag, lambda: self._end(tag, anew, place))
+        if not terminal.is_open(tag):
+            self._tag = self._anew = None
+        elif not terminal.is_open(anew):
+            terminal.open(anew)
+            terminal.work(tag)
+        elif terminal.first_gap(anew) is not None:
+            terminal.load(anew, 0, terminal.len(anew))
+        elif not self._is_put_in:
+            self._is_put_in = True  # also if memory is out for it, which is told at the end
+            self._put_in(tag, self.editor.texts.read(anew, 0, terminal.len(anew)))
+        elif terminal.unsent == 0:
+            self._end(tag, anew)
 
-    def _end(self, tag: int, anew: int, place: int) -> None:
-        """The new text stands in the old one's place."""
-        editor = self.editor
+    def _put_in(self, tag: int, came: str) -> None:
+        """Puts a text in the place of a file's, where the two differ."""
+        editor, place = self.editor, self.terminal.dot(tag)[0]
+        gone = editor.texts.read(tag, 0, self.terminal.len(tag))
+        start = common(gone, came)
+        same = common(gone[start:][::-1], came[start:][::-1])
+        self.forget(tag)
+        editor.log.begin(tag)
+        editor.texts.edit(tag, start, len(gone) - same, came[start : len(came) - same])
         editor.window_of(tag).select(min(place, self.terminal.len(tag)))
-        if self.terminal.len(tag) == self.terminal.len(anew):
+
+    def _end(self, tag: int, anew: int) -> None:
+        """The new text stands in the old one's place, and the host has both."""
+        editor, length = self.editor, self.terminal.len(anew)
+        if editor.texts.read(tag, 0, self.terminal.len(tag)) == editor.texts.read(anew, 0, length):
             editor.way.line.put_note(Note(NoteKind.RELOADED, tag=tag, number=anew))
             editor.write(tag)
             editor.message = f"{editor.name(tag)} is reloaded; {editor.keys.of('undo')} takes that back"
         else:
             editor.message = f"{editor.name(tag)} could not be reloaded"
         self.terminal.close(anew)
+        self._tag = self._anew = None

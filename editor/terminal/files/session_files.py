@@ -3,7 +3,7 @@ doesn't grow with their number."""
 from bisect import bisect_left
 from typing import Dict, Iterator, List, Set
 
-from sulgrevad import Terminal
+from ..text.client_terminal import ClientTerminal
 from ..text.texts import COMMAND
 from ..view.status_line import printable
 
@@ -13,7 +13,7 @@ ALL_TAGS = 65_536  # of a session
 class SessionFiles:
     """The user's files are all but the command file and the hidden ones, of which the host tells; `tags` has them in their order."""
 
-    def __init__(self, terminal: Terminal):
+    def __init__(self, terminal: ClientTerminal):
         self.terminal = terminal
         self.tags: List[int] = []
         self.all: Set[int] = set()  # the same

@@ -1,7 +1,7 @@
 """What became of the texts: which could not be written, which the host has saved aside, and which have to be written here."""
 import os
-from collections import Counter
-from typing import Dict, List, Optional, Tuple, Union
+from collections import Counter, deque
+from typing import Deque, Dict, List, Optional, Tuple, Union
 
 from . import local_backup
 from .backup_process import BackupProcess
@@ -36,7 +36,7 @@ class UnsavedTexts:
         # Files that the next write would replace: the name, None where it was not known yet, and what the host told.
         self._refused: Dict[int, Tuple[Optional[str], Note]] = {}
         self._changes: Counter = Counter()  # of each file
-        self._written: Dict[int, int] = {}  # how many of them there were at the last write
+        self._written: Dict[int, Deque[int]] = {}  # how many of them there were at each write that is not answered
         self._saved: Dict[int, int] = {}  # how many of them are in what the host has saved aside
         self._dropped: Dict[int, Tuple[str, str]] = {}  # names and texts of files that were dropped with open eyes, until they are saved
         self.put_off: Dict[int, bool] = {}  # files that are written when the line is back; whether the user is sure, where that is asked
@@ -49,7 +49,7 @@ class UnsavedTexts:
     def write(self, tag: int) -> None:
         """The host is told to write a file."""
         self._refused.pop(tag, None)
-        self._written[tag] = self._changes[tag]
+        self._written.setdefault(tag, deque()).append(self._changes[tag])
 
     def write_later(self, tag: int, is_sure: bool) -> None:
         """A file is to be written when the line is back; the user may be sure that it replaces another program's text."""
@@ -74,7 +74,9 @@ class UnsavedTexts:
     def meet(self, note: Note) -> None:
         """A message of the host about a text: whether it is written, and where a copy of it is."""
         tag, is_of_file = note.tag, note.code == NoteCode.NO_CODE and note.copy != b""
-        if note.kind == NoteKind.LOST:
+        if note.kind == NoteKind.SAVED:
+            self._answered(tag)
+        elif note.kind == NoteKind.LOST:
             self.is_hopeless = True
             self._saved.pop(tag, None)
         elif note.kind == NoteKind.NOT_SAVED:
@@ -91,9 +93,19 @@ class UnsavedTexts:
         if note.code in REPLACING:
             self._refused[tag] = self.name(tag) if self.terminal.is_known(tag) else None, note
         if note.copy:
-            self._saved[tag] = self._written.get(tag, -1)
+            self._saved[tag] = self._answered(tag)
         else:
+            self._answered(tag)
             self._saved.pop(tag, None)
+
+    def is_being_written(self, tag: int) -> bool:
+        """Whether a write of a file is not answered."""
+        return bool(self._written.get(tag)) and self.terminal.locked(tag)
+
+    def _answered(self, tag: int) -> int:
+        """The oldest write of a file is answered. Returns how many changes there were then."""
+        writes = self._written.get(tag)
+        return writes.popleft() if writes else -1
 
     def is_so(self, told: Union[str, Note]) -> bool:
         """Whether what was told of a file still holds: what was not written may have been since, or been read anew."""
@@ -106,6 +118,7 @@ class UnsavedTexts:
     def drop(self, tag: int) -> None:
         """The file is closed."""
         self._refused.pop(tag, None)
+        self._written.pop(tag, None)
 
     def let_go(self, tag: int) -> None:
         """The user closes a file that was not written. Its text is kept until the host says that it has it."""
@@ -128,7 +141,7 @@ class UnsavedTexts:
             is_saved = has_all and (has_ended_well or self._saved.get(tag) == self._changes[tag])
             if self.editor.is_changed(tag) and not is_saved:
                 try:
-                    text = local_backup.loaded(self.terminal, tag, self.editor.vault.going)
+                    text = local_backup.loaded(self.terminal, tag)
                     lines.append(self._kept(self.name(tag), text, tag))
                 except Exception as error:  # whatever it is, the other texts are written
                     self.is_hopeless = True
@@ -198,7 +211,7 @@ class UnsavedTexts:
 
     def _keep_all_here(self) -> None:
         editor = self.editor
-        texts = [(tag, self.name(tag), lambda tag=tag: local_backup.loaded(self.terminal, tag, editor.vault.going))
+        texts = [(tag, self.name(tag), lambda tag=tag: local_backup.loaded(self.terminal, tag))
                  for tag in editor.open_tags if editor.is_changed(tag)]  # fmt: skip
         texts += [(None, local_backup.TYPED, lambda: editor.typed_ahead), (None, local_backup.COMMAND_LINE, editor.begun_line)]
         texts.append((None, local_backup.CUT, lambda: local_backup.told(editor.cut_text)))

@@ -1,4 +1,6 @@
 """What each key does. A method `do_NAME` stands for each action of the table of keys, here or in movement.py."""
+from typing import NamedTuple
+
 from .command_lines import Commands, line_at
 from .search import Find, nothing_sought
 from ..files.open_requests import Files
@@ -6,13 +8,20 @@ from .bindings import Paste, Text
 from ..view.menus import Help
 from .motions import Targets
 from .movement import Moves
-from ..text.texts import COMMAND, GAP, MOST_RUNES
+from ..text.texts import COMMAND, GAP, MOST_RUNES, Changes
 from ..view.windows import Window
 
-MOST_PASTED_HERE = 4_096  # runes that `^V` types where the session stays: so no break can lock the file meanwhile
 MOST_IN_MENU = 2_000  # files
 LEAST_ROWS = 4  # rows of the least window, with its title
 TOO_LONG = f"the file would have more than {MOST_RUNES:,} characters"
+
+
+class Pasting(NamedTuple):
+    """Where a text is put in that the host is asked for, and what it takes the place of."""
+
+    tag: int
+    start: int
+    end: int
 
 
 class Actions(Commands, Moves):
@@ -77,27 +86,31 @@ class Actions(Commands, Moves):
 
     def _may_go(self, window: Window, key: str) -> bool:
         """Whether what is selected may go: it can be brought back, or the user is sure."""
-        start, end = window.dot
-        gaps = self.texts.read(window.tag, start, end - start).count(GAP) if window.tag != COMMAND else 0
-        question = f"{gaps} characters of it are not loaded: {self.keys.of('undo')} can't bring them back. {key} goes on"
-        return gaps == 0 or self.is_kept_or_sure(window.tag, start, end, question)
+        return window.tag == COMMAND or self.is_loaded_or_sure(window.tag, *window.dot, f"{key} goes on")
 
     def may_go_whole(self, tag: int, key: str) -> bool:
         """The same of the whole text of a file."""
-        length = self.terminal.len(tag)
-        gaps = self.texts.read(tag, 0, length).count(GAP)
-        question = f"{gaps} characters of the text are not loaded: {self.keys.of('undo')} can't bring them back. {key} again goes on"
-        return gaps == 0 or self.is_kept_or_sure(tag, 0, length, question)
+        return self.is_loaded_or_sure(tag, 0, self.terminal.len(tag), f"{key} again goes on")
 
-    def is_kept_or_sure(self, tag: int, start: int, end: int, question: str) -> bool:
-        """Whether a text may go that is not loaded: the host keeps it for `^Z`, or the user is sure. Where the host doesn't keep it yet
-        and can, it is told to, and this key acts again then."""
-        if self.vault.has(tag, start, end):
+    def is_loaded_or_sure(self, tag: int, start: int, end: int, goes_on: str) -> bool:
+        """Whether a text is loaded that is to go, so that it can be brought back, or the user is sure. Where it isn't, and can be, it is
+        loaded, and this key acts again then."""
+        gaps = self.terminal.gaps(tag, start, end - start)
+        if gaps == 0:
             return True
-        if self._answered != question and self.vault.keep(tag, start, end):
-            self.act_again(f"the host keeps a copy of what is not loaded, for {self.keys.of('undo')} and {self.keys.of('redo')}")
-            return False
-        return self.is_sure(question)
+        undo = self.keys.of("undo")
+        question = f"{gaps} characters of it are not loaded: {undo} can't bring them back. {goes_on}"
+        if self._answered == question or self.is_alone:
+            return self.is_sure(question)
+        self.load_all(tag, start, end, f"what goes is loaded, so that {undo} can bring it back")
+        return False
+
+    def load_all(self, tag: int, start: int, end: int, why: str) -> None:
+        """Loads a stretch in one round trip; the key that acts now acts again then."""
+        if not self.terminal.locked(tag):
+            gap = self.terminal.first_gap(tag, start)
+            self.terminal.load(tag, start if gap is None else gap, end - (start if gap is None else gap))
+        self.act_again(why)
 
     # ---- Actions: the screen
 
@@ -195,8 +208,8 @@ class Actions(Commands, Moves):
             self.write(tag)
 
     def write(self, tag: int) -> None:
-        self.keeping.write(tag)
         self.terminal.write(tag)
+        self.keeping.write(tag)
 
     def write_later(self, tag: int, is_sure: bool) -> None:
         """A file is written when the line is back; the user may be sure that it replaces another program's text."""
@@ -256,24 +269,35 @@ class Actions(Commands, Moves):
         self._snarfed, self.cut_text = text, ""
 
     def do_cut(self) -> None:
-        if self._goes("cut"):
-            self._clip(is_cut=True)
-            self.texts.cut(self.focus.tag)
+        """Copies the selection, and takes it out. The host has the copy, too, for a later session."""
+        window = self.focus
+        if window.dot[0] == window.dot[1] or not self._goes("cut"):
+            return
+        self._clip(is_cut=True)
+        if window is self.command:
+            self.terminal.cut_command()
+        else:
+            self.terminal.snarf(window.tag)
+            self.texts.replace(window.tag, "")
 
     def do_snarf(self) -> None:
+        window = self.focus
+        start, end = window.dot
+        if not self.is_alone and window is not self.command and self.terminal.gaps(window.tag, start, end - start):
+            self.load_all(window.tag, start, end, "what is copied is loaded")
+            return
         self._clip()
         if not self.is_lost:
-            self.terminal.snarf(self.focus.tag)
+            self.terminal.snarf(window.tag)
 
     def do_paste(self) -> None:
-        is_short = self.knows_snarfed and 0 < len(self._snarfed) <= MOST_PASTED_HERE
-        if self.way.is_late or is_short:
-            self._paste_here()
-        elif self._has_room(len(self._snarfed)) and self._goes("paste"):
-            self.log.comes[self.focus.tag] = self._snarfed
-            self.texts.paste(self.focus.tag)
-            if self.terminal.locked(self.focus.tag):
-                self._pasting.add(self.focus.tag)
+        if self.knows_snarfed:
+            self._paste(self._snarfed)
+        elif self.focus is self.command:
+            self.terminal.paste_command()
+        else:
+            self.pasting = Pasting(self.focus.tag, *self.focus.dot)
+            self.terminal.get_snarf()
 
     @property
     def knows_snarfed(self) -> bool:
@@ -281,12 +305,33 @@ class Actions(Commands, Moves):
         is_line = self.focus is self.command and "\n" in self._snarfed  # the host would run it
         return GAP not in self._snarfed and (self._snarfed != "" or self.terminal.snarf_len == 0) and not is_line
 
-    def _paste_here(self) -> None:
-        """Types what was cut or copied last: the host would have to answer before more is typed."""
-        if self._has_room(len(self._snarfed)) and self._goes("paste"):
-            self.texts.left = self._snarfed
-            self.texts.replace(self.focus.tag, self._snarfed)
+    def _paste(self, text: str) -> None:
+        """Puts a text in the place of the selection."""
+        if self._has_room(len(text)) and self._goes("paste"):
+            self.texts.replace(self.focus.tag, text)
             self.cut_text = ""
+
+    def meet_snarf(self, _tag: int) -> None:
+        """The host has sent what was cut or copied last: it is pasted where it was asked for, behind what was done there since."""
+        pasting, self.pasting = self.pasting, None
+        text = self.terminal.snarfed()
+        if pasting is None or not self.terminal.is_open(pasting.tag):
+            return
+        if len(text) != self.terminal.snarf_len:
+            self.message = f"what was copied there has {self.terminal.snarf_len:,} characters, too many to be brought here: copy it again"
+            return
+        self.note_snarfed(text)
+        tag, start, end = pasting
+        self.log.begin(tag)
+        is_there = self.texts.dot(tag) == (start, end)
+        if self.texts.edit(tag, start, end, text) and is_there:
+            self.window_of(tag).select(start + len(text))
+
+    def hear_pasting(self, changes: Changes) -> None:
+        """Moves the place for what is pasted once it has come."""
+        pasting = self.pasting
+        if pasting is not None and pasting.tag == changes.tag:
+            self.pasting = Pasting(pasting.tag, changes.moved(pasting.start), changes.moved(pasting.end))
 
     def do_look(self) -> None:
         if self.is_alone:
@@ -313,7 +358,7 @@ class Actions(Commands, Moves):
     @property
     def _may_get_a_pattern(self) -> bool:
         """Whether an answer is due that may bring the pattern that was searched last; those to loads don't."""
-        return any(self.terminal.locked(tag) and not self.terminal.is_loading(tag) for tag in self.all_windows)
+        return any(window.is_open and not window.is_settled for window in self.all_windows.values())
 
     def do_search_back(self) -> None:
         pattern = self.sought_here or self.terminal.pattern
@@ -381,14 +426,16 @@ class Actions(Commands, Moves):
     # ---- Actions: taking back
 
     def do_undo(self) -> None:
-        step = self.log.last(self.log.past, self.focus.tag)
+        step, tag = self.log.last(self.log.past, self.focus.tag), self.focus.tag
         if not self._can_turn(step, step and step.lacks, "nothing more to take back"):
             return
         count = self.log.unknown(step)
         undo, redo = self.keys.of("undo"), self.keys.of("redo")
         question = f"{count} characters of what goes are not loaded: {redo} can't bring them again. {undo} again goes on"
-        if count == 0 or self.is_kept_or_sure(self.focus.tag, 0, self.focus.length, question):
-            self.log.back(self.focus.tag)
+        if count and not self.is_alone and self.terminal.first_gap(tag) is not None:
+            self.load_all(tag, 0, self.focus.length, f"what goes is loaded, so that {redo} can bring it again")
+        elif count == 0 or self.is_sure(question):
+            self.log.back(tag)
 
     def do_redo(self) -> None:
         step = self.log.last(self.log.future, self.focus.tag)
@@ -398,12 +445,9 @@ class Actions(Commands, Moves):
     def _can_turn(self, step, lacks, nothing: str) -> bool:
         """Whether there is a step, and all of its text is known."""
         self.focus.anchor = self.focus.goal = None
-        is_out_of_reach = step is not None and self.way.is_late and (step.before or step.after) is not None
-        if is_out_of_reach:
-            self.wait_for_line("what went or came is kept by the host: that can be done when the line is back")
-        elif step is None:
+        if step is None:
             to_text = f" in the command window: {self.keys.of('switch')} goes to the text"
             self.message = nothing + to_text if self.focus is self.command else nothing
         elif lacks:
             self.message = f"that can't be taken back: {lacks} characters of what went were not loaded"
-        return step is not None and not lacks and not is_out_of_reach
+        return step is not None and not lacks

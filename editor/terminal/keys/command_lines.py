@@ -1,7 +1,7 @@
 """Command lines of the user: what has to hold before the host runs one."""
 from itertools import accumulate
 from operator import add, sub
-from typing import Dict, List, Optional, Tuple
+from typing import Dict, List, Optional, Set, Tuple
 
 from .bindings import Input, Paste, Text
 from .command_errors import help_of, word_of
@@ -58,12 +58,12 @@ class Commands:
         if window is self.command or not window.is_open:
             return True
         what, detail = removes(line) if is_known else ("range", None)
-        question = f"this may take out text that is not loaded: {self.keys.of('undo')} can't bring it back. {key} again runs it"
         is_safe = what != "range" or self._is_loaded(window, detail)
-        if not is_safe and not self.is_kept_or_sure(window.tag, 0, window.length, question):
+        if not is_safe and not self.is_loaded_or_sure(window.tag, 0, window.length, f"{key} again runs it"):
             return False
         self._before = None if is_known and is_address(line) else {tag: each.dot for tag, each in self.all_windows.items() if each.is_open}
         self._ends: Dict[int, int] = {}
+        self._selected: Set[int] = set()  # files whose selection the host has set since
         self.log.begin(window.tag)
         self.log.goes = detail if what == "pattern" else ""
         number = line_number(line)
@@ -79,6 +79,11 @@ class Commands:
             ends = map(add, map(add, changes.places, came), by)  # a change moves no place past another
             self._ends[tag] = max(self._ends.get(tag, -1) + by_all, max(ends))
 
+    def hear_dot(self, tag: int) -> None:
+        """The host has set the selection of a file, perhaps by a command line."""
+        if self._before is not None:
+            self._selected.add(tag)
+
     def end_run(self) -> None:
         """The host has run a command line. Unless that was an address alone the next key replaces nothing that the line has selected: the
         caret stands after its last change, else at the end of that."""
@@ -91,7 +96,8 @@ class Commands:
         self._parts_left = 0
         before, self._before = self._before or {}, None
         for tag, dot in before.items():
-            if tag == COMMAND or not self.terminal.is_open(tag) or (tag not in self._ends and self.texts.dot(tag) == dot):
+            is_touched = tag in self._ends or (tag in self._selected and self.texts.dot(tag) != dot)
+            if tag == COMMAND or not self.terminal.is_open(tag) or not is_touched:
                 continue
             window = self.window_of(tag)
             place = self._ends.get(tag, window.dot[1])

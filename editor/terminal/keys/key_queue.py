@@ -2,12 +2,11 @@
 go by several files; so the same keys do the same over any line, and a file that waits for the host holds back no key of another.
 """
 from collections import deque
-from itertools import chain, islice, takewhile
+from itertools import islice
 from typing import Callable, Deque, Dict, NamedTuple, Optional, Set
 
 from .bindings import ALL, ANSWERS, FILE, LINE, NOTHING, PATTERN, PLACE, ROWS, SCREEN, WINDOW, WINDOWS
 from .bindings import PROMPT, Binding, Input, Key, KeySet, Mouse, Paste, Text
-from .local_echo import text_ahead
 from ..view.layout import line_end, line_start
 from ..view.status_line import READ_AFTER, REPEAT
 from sulgrevad import SamError
@@ -136,15 +135,15 @@ class KeyQueue:
 
     @property
     def is_lock_held(self) -> bool:
-        """Whether a lock is held, so that the host will answer, or an event waits for one."""
-        if self.vault.is_busy or self.terminal.held > 0:
+        """Whether the host will answer, or a request waits."""
+        if self.terminal.is_asking or self.pasting is not None:
             return True
-        return any(map(self.terminal.locked, chain(self.all_windows, self.session_files.hidden)))
+        return any(map(self.terminal.locked, {*self.all_windows, *self.session_files.hidden}))
 
     @property
     def _are_windows_due(self) -> bool:
         """Whether the host's answer will change the windows, and so where keys go: at the start, and after `^N` and `^K`."""
-        return not self.has_begun or (self._awaits_file and self.is_lock_held)
+        return not self.has_begun or self.reloading.is_busy or (self._awaits_file and self.is_lock_held)
 
     def take(self, key: Input, when: Optional[float] = None) -> None:
         """Does what a key says, now or when what it acts on is settled. A tab that comes with a text is a key of its own: it may indent."""
@@ -367,7 +366,6 @@ class KeyQueue:
         """Does what a key says in its window, wherever later keys go."""
         window = pressed.window
         self._reach.pop(window or self.focus, None)
-        (window or self.focus).ahead = None
         if window is not None and self.bound(pressed.key).leads:
             self.go_to(window)
             window = None
@@ -385,19 +383,6 @@ class KeyQueue:
             self.deferred = deque(kept)
             self.give_back(typed, "a file is closed for which keys waited")
 
-    def _look_ahead(self) -> None:
-        """Has windows show what keys do that wait though no answer changes their text: those that come first, and go to one window."""
-        for window in self.windows:
-            window.ahead = None
-        first = self.deferred[0] if self.deferred else None
-        window = None if first is None else first.window
-        if window is None or window is self.command or self.menu is not None or self.vault.is_busy or self._are_windows_due:
-            return
-        if window not in self.windows or not window.is_open or not self.terminal.is_kept(window.tag):
-            return
-        waiting = takewhile(lambda pressed: pressed.window is window and not pressed.answers, self.deferred)
-        window.ahead = text_ahead(window, (pressed.key for pressed in waiting), self._runes_of)
-
     # ---- What a key waits for
 
     def _must_wait_in_window(self, pressed: Pressed) -> Optional[bool]:
@@ -412,7 +397,7 @@ class KeyQueue:
             return False
         if pressed.told_at is not None and self.way.is_late:
             return True
-        if self.vault.is_busy or (pressed.is_again and pressed.window is None and self.is_lock_held):
+        if pressed.is_again and self.is_lock_held:
             return True
         if pressed.window is None and self._is_for_menu(key):
             asks_host = not self.menu.is_box and self.menu.runs_line(key)
@@ -423,12 +408,20 @@ class KeyQueue:
             return binding.action != "write"  # that is put off
         if binding.waits == WINDOWS:
             return False
+        if self.is_leaving:
+            return True
         if binding.waits == ANSWERS:
             if binding.needs != "" and self.active not in self.windows and not self._has_shown(self.active, binding):
                 return True
             return self.is_lock_held or (binding.needs != "" and self._lacks_text(self.active, binding))
         window = pressed.window or self.focus
-        return not self._has_shown(window, binding) or not window.is_settled or self._lacks_text(window, binding, key)
+        if not self._has_shown(window, binding) or not window.is_settled or self._lacks_text(window, binding, key):
+            return True
+        if binding.action == "close" and not window.may_ask:  # whether it is written is not known
+            return True
+        if binding.action == "write" and self.keeping.is_being_written(window.tag):  # a second write would replace what stops the first
+            return True
+        return self.pasting is not None and self.pasting.tag == window.tag and binding is not TYPING
 
     def _runs_line(self, pressed: Pressed, binding: Binding) -> bool:
         """Whether a key acts by the command file: what is typed there, and what has the host run a line."""
@@ -443,7 +436,7 @@ class KeyQueue:
 
     def _look_at_the_line(self) -> None:
         """What would lock a file until the line is back is held back while answers are late."""
-        is_late = self.texts.holds_back = self.vault.is_out_of_reach = self.way.note_late()
+        is_late = self.texts.holds_back = self.way.note_late()
         if not is_late and any(pressed.told_at is not None for pressed in self.deferred):
             self.deferred = deque(pressed._replace(told_at=None) for pressed in self.deferred)
 
@@ -456,8 +449,7 @@ class KeyQueue:
     def _is_refused(self, first: Pressed) -> bool:
         """Whether a key that waits, and for no other key, goes, since the line is lost: once its user has had the time to read that it
         can't act. What is typed right behind it waits with it, and then it stays."""
-        is_shown = first.window is not None and first.window.ahead is not None and self._at < first.window.ahead.keys
-        if not self.way.is_known_late or first.answers or is_shown or self._is_needed(first):
+        if not self.way.is_known_late or first.answers or self._is_needed(first):
             return False
         window = first.window or self.focus
         if self.action_of(first.key) == "write":
@@ -550,7 +542,7 @@ class KeyQueue:
             find(*([isinstance(key, Key) and "Shift-" in key.name] if binding.extends else []))
         except Missing as missing:
             self._wants_text = True
-            if not window.layout().shows(missing.place) and not self.texts.holds_back:  # else the window asks for it
+            if window.may_ask and not window.layout().shows(missing.place) and not self.texts.holds_back:  # else the window asks for it
                 self._tried(lambda: self._load_towards(window, missing))
             return True
         return False
@@ -595,7 +587,7 @@ class KeyQueue:
     @property
     def is_busy(self) -> bool:
         """Whether keys come, are held or wait, and not for text: nothing more is asked for then."""
-        return not self._wants_text and (bool(self.deferred) or self.busy_left > 0 or self.terminal.held > 0)
+        return not self._wants_text and (bool(self.deferred) or self.busy_left > 0 or self.terminal.is_asking)
 
     @property
     def busy_left(self) -> float:
@@ -604,7 +596,7 @@ class KeyQueue:
     @property
     def rests(self) -> bool:
         """Whether no key came for a while, and none waits."""
-        return not self.deferred and self.rest_left <= 0 and self.terminal.held == 0
+        return not self.deferred and self.rest_left <= 0 and not self.terminal.is_asking
 
     @property
     def quiet_for(self) -> float:

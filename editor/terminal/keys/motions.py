@@ -51,7 +51,7 @@ class Targets:
         self._want_all(layout.top, layout.end)
 
     def selection(self) -> None:
-        """What is selected and shown, so that it can go. What is not shown the host keeps."""
+        """What is selected and shown, so that it can go. What is not shown is loaded by the key itself."""
         start, end = self.window.dot
         if start < end:
             layout = self.window.layout()

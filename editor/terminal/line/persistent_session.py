@@ -1,20 +1,18 @@
 """A line that goes on through breaks: the stream and notes of a session that stays at the host, over one connection after another.
 
-Each connection is a process that carries bytes to the session and back (a relay). The library's `Line` keeps what the host has not
+Each connection is a process that carries bytes to the session and back (a relay). The library's `Client` keeps what the host has not
 acknowledged, and says when a connection is made, asked and given up.
 """
-import contextlib
 import os
 import re
 import select
 import time
-from collections import deque
-from typing import Callable, Deque, Dict, List, Optional, Sequence, Tuple, Union
+from typing import Callable, Dict, List, Optional, Sequence
 
 from ..keys.bindings import SAM
 from .host_process import SECONDS_TO_END, HostProcess, wait_for
 from .network import Network
-from sulgrevad import Line, Note, NoteKind, SamError, Status, Tick, read_note, write_note
+from sulgrevad import Client, Note, NoteKind, SamError, Status, Tick, read_note, write_note
 
 ID_BYTES, NAME_BYTES = 16, 8  # of a session; of its name the first ones, in hexadecimal digits
 LEAST_PIECE, PIECE = 4_096, 65_536  # bytes that are taken at once: first so many, and then more
@@ -22,8 +20,7 @@ LEAST_PIECE, PIECE = 4_096, 65_536  # bytes that are taken at once: first so man
 SECONDS_TO_GO = 2  # that the last bytes may take where the session stays
 LATE_AFTER = 1.0  # seconds, and two round trips, after which an answer counts as late
 RETRY = 0.1  # seconds until that for which the memory was too small is tried again
-MOST_NOTES = 64  # that are taken before a key is
-MOST_EARLY = 100_000  # that may come before the stream begins
+MOST_EARLY = 100_000  # notes that may come before the stream begins
 MOST_LAST_LINES = 1_024  # of a connection that has ended
 SECONDS_MISSING = 60  # for which the line tries a session that the host doesn't find: its folder may not be there yet
 ALIKE = 3  # connections that end alike, one after another, of which the user is told
@@ -56,9 +53,6 @@ CAN = "{leave} leaves and keeps the texts here; samterm --take then goes on with
 CAN_ASK = "{redraw} tries at once, and ssh can ask then; {leave} leaves and keeps the texts here"
 
 
-Item = Union[bytes, str, Note]  # bytes of the stream, a line of a connection's standard error, a message of the host
-
-
 class PersistentSession:
     """The terminal's end. Nothing here waits, but for `wait_for_stream`, `connect_in_front` and `close`."""
 
@@ -68,7 +62,7 @@ class PersistentSession:
         self.command, self.clock, self.keys = command, clock, SAM
         identity = os.urandom(ID_BYTES)
         self.name, self.machine = identity[:NAME_BYTES].hex(), ""
-        self._line = Line(identity, takes_over, self._now)
+        self.client = Client(identity, takes_over, self._now)
         self.relay: Optional[HostProcess] = None  # the newest connection; None between two
         self._attempt = 0  # its number
         self._old: List[HostProcess] = []  # those that are ended, until their processes are gone
@@ -77,12 +71,10 @@ class PersistentSession:
         self._network = Network()
         self.ended_with: Optional[int] = None  # the status with which the session has ended
         self._last_line = ""  # of a connection's standard error
-        self._early: List[Item] = []
-        # For which there was no memory: bytes of the stream and notes, which are told by True, in their order; and what came.
-        self._unput: Deque[Tuple[bool, bytes]] = deque()
-        self._unheard = bytearray()
-        # Whether the line may have bytes for the connection, bytes for us, and a question.
-        self._has_out, self._has_in, self._has_question = True, False, False
+        self._unheard = bytearray()  # what came, and for which there was no memory
+        self.has_out = True  # the client may have something for the connection
+        self._sent_at: Optional[int] = None  # how much was done then
+        self._notes_met = 0
         self._called_at = 0.0
         self._words, self._is_in_front = "", False  # of the newest connection: what it told last, and whether the user waits for it
         self._end_was, self._alike = "", 0  # how the last connection ended, and how many before it ended like that
@@ -90,9 +82,9 @@ class PersistentSession:
         self._is_named = False  # the host has said the first message
         self._is_missing = False  # no host finds the session, and that is told
         self.expects = False  # an answer of the host is waited for
-        self._details, self._quiet_at = self._line.describe(self._now), 0.0
+        self._details, self._quiet_at = self.client.describe(self._now), 0.0
         self._due_at: Optional[float] = None  # when the line may have something to say: never later than it has
-        self._line.tick(self._now)
+        self.client.tick(self._now)
         self._call(begin(self.name), in_front=True)
 
     @property
@@ -102,11 +94,11 @@ class PersistentSession:
     def _note(self) -> None:
         """The line stands otherwise, or may. It is looked at several times at each key, and asked once; what comes on a line that stands
         makes nothing due sooner."""
-        now, was = self._now, self._details.state
-        self._details = self._line.describe(now)
+        now, was, self.has_out = self._now, self._details.state, True
+        self._details = self.client.describe(now)
         self._quiet_at = self.clock() - self._details.silence / 1000
-        if not (was == self._details.state == Line.OPEN and self._due_at is not None and self.clock() < self._due_at):
-            left = self._line.due_in(now)
+        if not (was == self._details.state == Client.OPEN and self._due_at is not None and self.clock() < self._due_at):
+            left = self.client.due_in(now)
             self._due_at = None if left is None else (now + left) / 1000
 
     # ---- Connections
@@ -117,15 +109,14 @@ class PersistentSession:
         try:
             self.relay = HostProcess([*self.command, *words], own_session=not in_front)
         except OSError:
-            self._line.not_connected(self._now)
+            self.client.not_connected(self._now)
             self._note()
             if not self._attempt:
                 raise
             return
-        self._attempt = self._line.connected(self._now)
-        self._has_out = True
+        self._attempt = self.client.connected(self._now)
         self._note()
-        self._push()
+        self.send()
 
     def connect(self, in_front: bool = False) -> None:
         """Tries another connection now, if the session stays."""
@@ -137,7 +128,7 @@ class PersistentSession:
         """Ends the newest connection."""
         relay, self.relay = self.relay, None
         if relay is not None:
-            self._line.broken(self._attempt, self._now)
+            self.client.broken(self._attempt, self._now)
             self._note()
             self._unheard.clear()
             self._gone = (self._gone[0] + relay.up, self._gone[1] + relay.down)
@@ -163,7 +154,7 @@ class PersistentSession:
 
     @property
     def is_open(self) -> bool:
-        return self._details.state in (Line.OPEN, Line.LATE)
+        return self._details.state in (Client.OPEN, Client.LATE)
 
     @property
     def is_connecting(self) -> bool:
@@ -178,38 +169,35 @@ class PersistentSession:
         """Notes whether an answer of the host is waited for: the line may die once it has acknowledged what was asked."""
         if expects != self.expects:
             self.expects = expects
-            self._line.expect(expects, self._now)
+            self.client.expect(expects, self._now)
             self._note()
 
     def go_on(self) -> None:
-        """Does what is due by the clock; a question goes out by `send`."""
+        """Does what is due by the clock; a question goes out as the client goes on."""
         if self._old:
             self._old = [relay for relay in self._old if not relay.is_over()]
         while self._is_timed and self._due_at is not None and self.clock() >= self._due_at:
             why = "" if self.is_open else self._words or SILENT
-            tick = self._line.tick(self._now)
+            tick = self.client.tick(self._now)
             self._note()
             if tick == Tick.CONNECT:
                 self.connect()
             elif tick == Tick.DROP:
                 self._break(why)
-            elif tick == Tick.ASK:
-                self._has_question = True
 
     def _hear_network(self, ready: Dict[int, int]) -> None:
         """Where an address has gone, or one has come and there is no line, the line hears of it."""
         heard = self._network.hear(ready)
         if heard.gone or (heard.came and self.relay is None):
-            self._line.address_changed(self._now)
+            self.client.address_changed(self._now)
             self._note()
-            self._has_question = True
 
     def delay(self) -> Optional[float]:
         """Seconds until something is due by the clock; None where nothing is."""
         has_ended = self.relay is not None and (self.relay.has_lines or (self.relay.is_lost and not self.is_lost))
-        if self._tells or has_ended or (self._has_in and not self.is_lost):
+        if self._tells or has_ended:
             return 0.0
-        if self._unput or self._unheard or self._has_question:
+        if self._unheard:
             return RETRY
         return max(0.0, self._due_at - self.clock()) if self._is_timed and self._due_at is not None else None
 
@@ -228,54 +216,32 @@ class PersistentSession:
         """Bytes that the pipe has not taken yet."""
         return bytes(self.relay.waiting) if self.relay and self.relay.waiting else b""
 
-    def send(self, data: bytes = b"") -> None:
-        """Sends bytes of the stream, as many as go; the others wait."""
-        if data or self._unput or self._has_question or self._has_out or self.waiting:
-            self._put(data)
-            self._ask()
-            self._push()
+    def send(self, deeds: Optional[int] = None) -> None:
+        """Sends what the client has for the connection, as much as goes. It has nothing new where no more was done than at the last call,
+        and the line has heard nothing."""
+        relay, room = self.relay, LEAST_PIECE
+        if deeds is not None and deeds == self._sent_at and not self.has_out and not self.waiting:
+            return
+        self._sent_at = deeds
+        while relay is not None and not relay.is_deaf:
+            was_waiting = bool(relay.waiting)
+            data = b"" if was_waiting else self._taken_out(room)
+            relay.send(data)
+            if data:
+                self._note()
+            self.has_out = bool(relay.waiting)
+            if relay.waiting or (len(data) < room and not was_waiting):
+                return
+            room = PIECE
 
     def put_note(self, note: Note) -> None:
-        """Sends a message, in its order with the stream. A path that is too long for one raises `SamError`, and nothing is sent."""
-        self._unput.append((True, write_note(note)))
-        self._put(b"")
-
-    def _put(self, data: bytes) -> None:
-        """Has the line take bytes of the stream, after all that it has not taken yet."""
-        if data:
-            self._unput.append((False, data))
-        while self._unput:
-            is_note, first = self._unput[0]
-            try:
-                self._line.put_note(first, self._now) if is_note else self._line.put(first, self._now)
-            except MemoryError:
-                return
-            self._unput.popleft()
-            self._has_question = True
-
-    def _ask(self) -> None:
-        """Asks whether all has come, if the line has to know."""
-        if self._has_question:
-            with contextlib.suppress(MemoryError):
-                self._line.ask(self._now)
-                self._has_question, self._has_out = False, True
-            self._note()
-
-    def _push(self) -> None:
-        """Gives the connection as much as goes."""
-        relay, room = self.relay, LEAST_PIECE
-        while relay is not None and not relay.is_deaf and (self._has_out or relay.waiting):
-            data = b"" if relay.waiting else self._taken_out(room)
-            if not relay.waiting:
-                self._has_out, room = len(data) == room, PIECE
-            relay.send(data)
-            if relay.waiting:
-                return
+        """Sends a message, behind all that has acted. A path that is too long for one raises `SamError`, and nothing is sent."""
+        self.client.put_note(write_note(note), self._now)
 
     def _taken_out(self, room: int) -> bytes:
         """The next bytes for the connection; none where it is over."""
         try:
-            return self._line.take_out(self._attempt, room)
+            return self.client.take_out(self._attempt, room)
         except SamError:
             return b""
 
@@ -287,34 +253,23 @@ class PersistentSession:
         wanted.update(self._network.wanted())
         return wanted
 
-    def take_early(self) -> List[Item]:
-        """What has come already, in its order."""
-        items, self._early = self._early, []
-        return items
-
-    def take(self, ready: Dict[int, int]) -> List[Item]:
-        """What has come, in its order."""
-        items = self.take_early()
+    def take(self, ready: Dict[int, int]) -> List[str]:
+        """Gives the client what has come. Returns what there is to tell."""
         self._hear_network(ready)
-        relay = self.relay
-        if relay is None and not self.is_lost:
-            items += self._come()
-        elif relay is not None:
-            # No more is taken while notes wait.
-            data = relay.receive() if relay.source in ready and not relay.is_lost and not self._has_in else b""
+        relay, tells = self.relay, []  # type: Optional[HostProcess], List[str]
+        if relay is not None:
+            data = relay.receive() if relay.source in ready and not relay.is_lost else b""
             # It tells of a text before it answers; an open line tells by notes.
-            tells = relay.messages in ready or relay.has_lines or (relay.source in ready and not (data and self.is_open))
-            if tells and not relay.is_quiet:
-                items += self._new_lines(relay)
+            has_told = relay.messages in ready or relay.has_lines or (relay.source in ready and not (data and self.is_open))
+            if has_told and not relay.is_quiet:
+                tells += self._new_lines(relay)
             if data or self._unheard:
                 self._hear(data)
-            items += self._come()
-            if relay.is_lost and relay is self.relay and not (self.is_lost or self._has_in):
-                items += self._last_lines(relay)
+            if relay.is_lost and not data and relay is self.relay and not self.is_lost:  # all that came is met before
+                tells += self._last_lines(relay)
                 self._break("" if self.is_open else self._words)
         self.go_on()
-        self.send()
-        return [*items, *self._told_of()]
+        return [*tells, *self._told_of()]
 
     def _told_of(self) -> List[str]:
         """What there is to tell of connections."""
@@ -340,7 +295,7 @@ class PersistentSession:
         """Bytes of the connection have come."""
         self._unheard += data
         try:
-            self._line.receive(self._attempt, bytes(self._unheard), self._now)
+            self.client.receive(self._attempt, bytes(self._unheard), self._now)
         except MemoryError:
             return
         except SamError as error:
@@ -350,13 +305,11 @@ class PersistentSession:
             return
         self._unheard.clear()
         self._note()
-        self._has_in = self._has_out = True
-        self._has_question = not self._details.has_all
         self._is_missing = self._is_missing and not self.is_open
 
     def _meet_fault(self, code: int) -> None:
         """What came has ended the connection, or the line. Where a session isn't found, a key's try is the last."""
-        if self._details.state == Line.LOST or (code == Status.LINK_NO_SESSION and self._is_in_front):
+        if self._details.state == Client.LOST or (code == Status.LINK_NO_SESSION and self._is_in_front):
             self._lose(LOST[Status(code)])
             return
         if code == Status.LINK_NO_SESSION and not self._is_missing:
@@ -365,24 +318,9 @@ class PersistentSession:
             self._tells.append(f"samterm: the host doesn't find the session. It is tried for {SECONDS_MISSING} s; {last}")
         self._break(ENDS.get(Status(code), WRONG_BYTES))
 
-    def _come(self) -> List[Item]:
-        """What of the host's stream is here: bytes, joined as they came, and notes between them; no more of these than leave a key time."""
-        items: List[Item] = []
-        for _ in range(MOST_NOTES if self._has_in else 0):
-            data = b"".join(iter(self._line.take_in, b""))
-            if data:
-                items.append(data)
-            note = self._line.next_note()
-            if note is None:
-                self._has_in = False
-                return items
-            item = self._meet(note)
-            if item is not None:
-                items.append(item)
-        return items
-
-    def _meet(self, data: bytes) -> Optional[Note]:
-        """A message of the host. What only a later version says is skipped."""
+    def meet(self, data: bytes) -> Optional[Note]:
+        """Reads a message of the host. Returns it, unless it is of the line. What only a later version says is skipped."""
+        self._notes_met += 1
         try:
             note = read_note(data)
         except SamError:
@@ -393,9 +331,8 @@ class PersistentSession:
             self._meet_name(note)
         elif note is not None and note.kind == NoteKind.ENDED:
             self.ended_with = min(note.number, MOST_STATUS)
-            self._line.acknowledge()
-            self._has_out = True
-            self._push()
+            self.client.acknowledge()
+            self.send()
             self._lose("the host is gone")
         elif note is not None and note.kind == NoteKind.TAKEN_OVER:
             self._lose(f"another terminal has taken the session over: {note.text}")
@@ -416,13 +353,13 @@ class PersistentSession:
 
     @property
     def has_all(self) -> bool:
-        """Whether the host is known to have all that was sent."""
-        return not (self._unput or self._has_question) and self._details.has_all
+        """Whether the host is known to have all that the user did."""
+        return self._details.has_all and self.client.has_all
 
     @property
     def silence(self) -> float:
         """For how many seconds nothing has come, though something was due."""
-        is_quiet = self._details.state == Line.OPEN and self._details.has_all and not self.expects
+        is_quiet = self._details.state == Client.OPEN and self._details.has_all and not self.expects
         return 0.0 if is_quiet else self.clock() - self._quiet_at
 
     @property
@@ -439,7 +376,7 @@ class PersistentSession:
     def is_broken(self) -> bool:
         """Whether there is no line, though there was one."""
         details = self._details
-        return details.state not in (Line.OPEN, Line.LATE) and (details.is_known or details.failures > 0)
+        return details.state not in (Client.OPEN, Client.LATE) and (details.is_known or details.failures > 0)
 
     @property
     def told(self) -> str:
@@ -454,7 +391,7 @@ class PersistentSession:
     @property
     def noise(self) -> List[str]:
         """The lines that came before the hello of the newest connection."""
-        return [line for line in self._line.words.decode("utf-8", "replace").splitlines() if line.strip()]
+        return [line for line in self.client.words.decode("utf-8", "replace").splitlines() if line.strip()]
 
     @property
     def refused_words(self) -> bool:
@@ -466,26 +403,29 @@ class PersistentSession:
         """The status with which the host's command has ended before the stream began; None where it goes on."""
         return None if self.relay is None else self.relay.early_status
 
-    def wait_for_stream(self, hear: Callable[[str], None]) -> bool:
-        """Waits until the host's stream begins. Passes on what is told meanwhile. Returns whether it begins."""
-        while not any(isinstance(item, bytes) for item in self._early) and not self.is_lost and self.relay is not None:
+    def wait_for_stream(self, hear: Callable[[str], None], go_on: Callable[[], bool]) -> bool:
+        """Waits until the host's stream has begun, as a call that goes on with what has come says. Passes on what is told meanwhile, and
+        returns whether it has."""
+        has_begun = go_on()
+        while not has_begun and not self.is_lost and self.relay is not None:
+            self.send()
             relay, ready = self.relay, wait_for(self.wanted(), self.delay())
             self._hear_network(ready)
             for line in self._new_lines(relay) if not relay.is_quiet and (relay.messages in ready or relay.has_lines) else []:
                 hear(line)
-            if relay.source in ready and not self._has_in and (data := relay.receive()):
+            if (relay.source in ready and (data := relay.receive())) or self._unheard:
                 self._hear(data)
-            self._early += self._come()
-            self.send()
-            if len(self._early) > MOST_EARLY:
+            has_begun = go_on()
+            if self._notes_met > MOST_EARLY:
                 self._lose("the host tells without an end")
-            if relay.is_lost and not self._has_in:
+            if relay.is_lost:
                 break
+        self.send()
         for line in self._told_of():
             hear(line)
         if self.is_lost:
             hear(f"samterm: {self.why}")
-        return any(isinstance(item, bytes) for item in self._early)
+        return has_begun
 
     def connect_in_front(self, hear: Callable[[str], None], signals: int, is_stopped: Callable[[], bool]) -> None:
         """Tries another connection while the user waits for it, at a screen on which ssh may ask. A signal may stop that."""
@@ -495,24 +435,25 @@ class PersistentSession:
             if signals in ready and is_stopped():
                 self._break()
                 return
-            for item in self.take(ready):
-                hear(item) if isinstance(item, str) else self._early.append(item)
+            for line in self.take(ready):
+                hear(line)
+            self.send()
 
     def close(
-        self, hear: Callable[[str], None], take: Callable[[bytes], None] = lambda data: None, seconds: float = SECONDS_TO_END
+        self, hear: Callable[[str], None], go_on: Callable[[], None] = lambda: None, seconds: float = SECONDS_TO_END
     ) -> Optional[int]:
-        """Sends what waits, and passes on what still comes. Where the session ends, or ends with its line, waits for that, and returns its
-        status, None where it doesn't end; else waits for the host's word that it has all, and returns None: the session stays."""
+        """Sends what waits, and goes on by a call with what still comes. Where the session ends, or ends with its line, waits for that, and
+        returns its status, None where it doesn't end; else waits for the host's word that it has all, and returns None: the session
+        stays."""
         until = self.clock() + seconds
         while self.ended_with is None and self.clock() < until and not self.is_lost and self.relay is not None:
             if not self.ends and self.has_all:
                 break
+            self.send()
             left = min(until - self.clock(), 1.0 if self.delay() is None else self.delay())
-            for item in self.take(wait_for(self.wanted(), left)):
-                if isinstance(item, bytes):
-                    take(item)
-                elif isinstance(item, str):
-                    hear(item)
+            for line in self.take(wait_for(self.wanted(), left)):
+                hear(line)
+            go_on()
         status = self.ended_with
         if self.relay is not None and status is not None:
             self.relay.close(hear, seconds=SECONDS_TO_GO)

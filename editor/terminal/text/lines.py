@@ -119,7 +119,7 @@ class Numbers:
         """How many newlines stand from one place to another; all of that is loaded."""
         if high - low <= NEAR:
             return self.texts.read(tag, low, high - low).count("\n")
-        return self.texts.terminal.lines(tag, low, high)[0]
+        return self.texts.terminal.newlines(tag, low, high)
 
     def count(self, tag: int, length: int) -> Optional[int]:
         """How many lines a text of this length has; None where not all of it is loaded."""

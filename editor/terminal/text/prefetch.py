@@ -77,18 +77,6 @@ class Prefetch:
         gap = self.terminal.first_gap(tag, window.top)
         gap = self.terminal.first_gap(tag) if gap is None else gap
         most = min(window.length, gap + self._size)
-        end = max(end_of_gap(self.terminal, tag, gap, most), end_of_load(self.terminal, tag, gap, min(most, gap + MOST_IN_LOAD)))
+        end = max(self.terminal.end_of_gap(tag, gap, most), end_of_load(self.terminal, tag, gap, min(most, gap + MOST_IN_LOAD)))
         self.terminal.load(tag, gap, end - gap)
         self._note_load()
-
-
-def end_of_gap(terminal, tag: int, start: int, most: int) -> int:
-    """Where the gap ends that begins at a place, or a place before which it does not end."""
-    low, high = start + 1, most + 1  # the runes up to `low` are missing, those up to `high` not all, or too many
-    while high - low > 1:
-        middle = (low + high) // 2
-        if terminal.bytes(tag, start, middle)[1] == middle - start:
-            low = middle
-        else:
-            high = middle
-    return low

@@ -2,20 +2,19 @@
 from itertools import chain
 from typing import Dict, Iterable, Iterator, List, Optional
 
-from sulgrevad import Terminal, Unfinished
-from .texts import GAP, Change, Changes, Texts, runs
-from .undo_store import Kept, Part, UndoStore
+from .client_terminal import ClientTerminal
+from .texts import GAP, Change, Changes, Run, Texts, runs
 
 MOST_STEPS = 10_000  # steps that are kept of a file
 MOST_TYPED = 80  # runes that are taken back at once, of those typed one after the other
+MOST_WAITING = 64  # edits of a step that wait together: each costs the more the more wait
 
 
 class Step:
     """Changes that are taken back together."""
 
-    def __init__(self, kind: str = "", before: Optional[Kept] = None):
+    def __init__(self, kind: str = ""):
         self.kind = kind  # "type" or "erase" where the next change of this kind may join
-        self.before, self.after = before, None  # what the host keeps of the text, where not all that went or came is known here
         self._changes: List[Change] = []
         self._later: List[Iterable[Change]] = []  # after these: each is made where it is asked for, as there may be thousands
         self.turned = 0  # how many of them are taken back, from the last one on
@@ -48,19 +47,23 @@ class Step:
     @property
     def lacks(self) -> int:
         """How many runes are known nowhere that have to come to take it back."""
-        return 0 if self.before is not None else sum(change.gone.count(GAP) for change in self.stand)
+        return sum(change.gone.count(GAP) for change in self.stand)
 
     @property
     def lacks_again(self) -> int:
         """The same of a step that was taken back, to make it again."""
-        return 0 if self.after is not None else sum(change.came.count(GAP) for change in self.went)
+        return sum(change.came.count(GAP) for change in self.went)
 
     def add(self, changes: Iterable[Change]) -> None:
         if not self.kind:
             self._later.append(changes)
             return
         for change in changes:
-            self.changes.append(_joined(self.changes.pop(), change) if self.changes else change)
+            if self.changes and _touches(self.changes[-1], change):
+                change = _joined(self.changes.pop(), change)
+            elif self.changes:  # the host has made it
+                self.kind = ""
+            self.changes.append(change)
 
     def takes(self, kind: str, start: int, end: int) -> bool:
         """Whether a change of this kind from one place to another goes on where the last one stopped."""
@@ -73,6 +76,12 @@ class Step:
 
 
 Steps = Dict[int, List[Step]]  # of each file, the last one last
+
+
+def _touches(first: Change, second: Change) -> bool:
+    """Whether two changes can be joined, one made after the other."""
+    goes_on = second.place == first.place + len(first.came)
+    return goes_on or (second.came == "" and second.place + len(second.gone) == first.place)
 
 
 def _joined(first: Change, second: Change) -> Change:
@@ -91,49 +100,52 @@ def _filled(text: str, known: str) -> str:
     return "".join(other if rune == GAP else rune for rune, other in zip(text, known))
 
 
-class Known:
-    """Changes whose gaps are filled, as far as what the host takes out or puts in is known."""
+def _together(each: Iterator[Run]) -> Iterator[List[Run]]:
+    """Runs in lists that may be made by one call. One of which not all is known that goes is alone."""
+    together: List[Run] = []
+    for run in each:
+        if together and (not run.is_known or not together[0].is_known or len(together) == MOST_WAITING):
+            yield together
+            together = []
+        together.append(run)
+    if together:
+        yield together
 
-    def __init__(self, changes: Changes, goes: str, comes: str):
-        self._changes, self._goes, self._comes = changes, goes, comes
+
+class Known:
+    """Changes whose gaps are filled, as far as what the host takes out is known."""
+
+    def __init__(self, changes: Changes, goes: str):
+        self._changes, self._goes = changes, goes
 
     def __iter__(self) -> Iterator[Change]:
         for change in self._changes:
-            _, _, gone, came = change
-            has_gap = GAP in gone or GAP in came
-            yield change._replace(gone=_filled(gone, self._goes), came=_filled(came, self._comes)) if has_gap else change
+            yield change._replace(gone=_filled(change.gone, self._goes)) if GAP in change.gone else change
 
 
 class Undo:
     """What was done to each file, and what was taken back."""
 
-    def __init__(self, terminal: Terminal, texts: Texts, vault: UndoStore):
-        self.terminal, self.texts, self.vault = terminal, texts, vault
-        vault.live = self.parts
+    def __init__(self, terminal: ClientTerminal, texts: Texts):
+        self.terminal, self.texts = terminal, texts
+        terminal.forget_changes = self.drop
         self.past: Steps = {}
         self.future: Steps = {}
-        # What the host takes out, or puts into a file, where it changes a text of this length that is not loaded.
-        self.goes, self.comes = "", {}  # type: str, Dict[int, str]
+        self.goes = ""  # what the host takes out where it changes a text of this length that is not loaded
         self._halves: Dict[int, Step] = {}  # of a file, the step that is taken back in part, since memory was out
         self._turned: Optional[int] = None  # the file of which a step is turned
-
-    def parts(self) -> List[Part]:
-        """What the vault has to keep."""
-        lists = [*self.past.values(), *self.future.values(), self._halves.values()]
-        return [kept.part for steps in lists for step in steps for kept in (step.before, step.after) if kept is not None]
 
     def begin(self, tag: int, kind: str = "", start: int = 0, end: int = 0) -> None:
         """A key changes a file next: a step begins, or goes on where a key of the same kind stopped."""
         self.goes = ""
-        self.comes.pop(tag, None)
         if tag in self._halves:
             self._stay(tag)
-        steps, kept = self.past.setdefault(tag, []), self.vault.take(tag)
-        if steps and kind and kept is None and steps[-1].takes(kind, start, end):
+        steps = self.past.setdefault(tag, [])
+        if steps and kind and steps[-1].takes(kind, start, end):
             return
         if steps and steps[-1].is_empty:
             steps.pop()
-        steps.append(Step(kind) if kept is None else Step(before=kept))
+        steps.append(Step(kind))
         del steps[:-MOST_STEPS]
 
     def room(self, tag: int, start: int, end: int) -> int:
@@ -145,14 +157,13 @@ class Undo:
     def hear(self, changes: Changes) -> None:
         """Notes changes of a file; what was taken back can't be made again then."""
         tag = changes.tag
-        if tag in (0, self.vault.tag, self._turned):
+        if tag in (0, self._turned):
             return
         self._stay(tag)
         steps = self.past.setdefault(tag, [])
         if not steps:
             steps.append(Step())
-        goes, comes = self.goes, self.comes.get(tag, "")
-        steps[-1].add(Known(changes, goes, comes) if goes or comes else changes)
+        steps[-1].add(Known(changes, self.goes) if self.goes else changes)
 
     def _stay(self, tag: int) -> None:
         """What was taken back stays so."""
@@ -160,12 +171,12 @@ class Undo:
         half = self._halves.pop(tag, None)
         if half is not None:
             del half.changes[-half.turned :]
-            half.turned, half.after = 0, None
+            half.turned = 0
             self.past.setdefault(tag, []).append(half)
 
     def drop(self, tag: int) -> None:
         """The file is gone."""
-        for steps in (self.past, self.future, self._halves, self.comes):
+        for steps in (self.past, self.future, self._halves):
             steps.pop(tag, None)
 
     def last(self, steps: Dict[int, List[Step]], tag: int) -> Optional[Step]:
@@ -179,7 +190,7 @@ class Undo:
 
     def unknown(self, step: Step) -> int:
         """How many runes would go with a step that are not known, so that they could not be brought again."""
-        return 0 if step.after is not None or step.turned else sum(came.count(GAP) for came in self._came_now(step))
+        return 0 if step.turned else sum(came.count(GAP) for came in self._came_now(step))
 
     def _came_now(self, step: Step) -> List[str]:
         """What came with each change of a step, its gaps filled as far as it is loaded by now."""
@@ -195,42 +206,28 @@ class Undo:
         return texts
 
     def back(self, tag: int) -> None:
-        step, kept = self.last(self.past, tag), self.vault.take(tag)
-        step.after = step.after if kept is None else kept
-        if step.before is None:
-            self._turn(tag, step, [Change(tag, place, came, gone) for _, place, gone, came in reversed(step.stand)], 1)
-            return
-        if not step.turned:
-            step.changes = [change._replace(came=came) for change, came in zip(step.changes, self._came_now(step))]
-        self._put_back(tag, step, step.before, len(step.changes))
+        step = self.last(self.past, tag)
+        self._turn(tag, step, [Change(tag, place, came, gone) for _, place, gone, came in reversed(step.stand)], 1)
 
     def again(self, tag: int) -> None:
         step = self.last(self.future, tag)
-        if step.after is None:
-            self._turn(tag, step, step.went, -1)
-        else:
-            self._put_back(tag, step, step.after, 0)
-
-    def _put_back(self, tag: int, step: Step, kept: Kept, turned: int) -> None:
-        """Has the host put back a text that it keeps."""
-        self._turned = tag
-        place = min(change.place for change in step.changes)
-        self.vault.put_back(kept, place, lambda: self._end(tag, step, turned))
+        self._turn(tag, step, step.went, -1)
 
     def _turn(self, tag: int, step: Step, changes: List[Change], sign: int) -> None:
         """Makes changes of a file, which take back what is left of a step; or make it again, where the sign is -1. Out of memory some of
         them are made."""
         made, self._turned = 0, tag
+        is_free = self.terminal.file(tag).is_free and not self.terminal.is_asking  # so nothing else moves a place meanwhile
         try:
-            for run in runs(changes):
-                if not run.is_known:
+            for together in _together(runs(changes)):
+                if not together[0].is_known:
                     self._fill(step, changes, made, sign)
-                try:
-                    self.terminal.edit(tag, run.place, run.place + run.gone, "".join(run.came))
-                except Unfinished:  # it was taken all the same
-                    made += run.count
-                    raise
-                made += run.count
+                count = self.terminal.edit_each(tag, [(run.place, run.place + run.gone, "".join(run.came)) for run in together])
+                made += sum(run.count for run in together[:count])
+                if count < len(together):
+                    return
+                if is_free:
+                    self.terminal.act()
             caret = changes[-1].place + len(changes[-1].came)
             self.terminal.select(tag, caret, caret)
         finally:

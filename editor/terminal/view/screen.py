@@ -274,26 +274,16 @@ def window_rows(editor: Editor, window: Window) -> Dict[int, List[Run]]:
 
 
 def drawn_of(editor: Editor, window: Window) -> Drawn:
-    is_focus, tag, (_, dot, _, layout) = window is editor.shown_focus, window.tag, window.shown()
-    is_changed = editor.is_changed(tag) or window.shown_ahead is not None
-    title = f"{'>' if is_focus else ' '}{'*' if is_changed else ' '} {editor.name(tag)}"
+    is_focus, tag, (_, dot, _, layout) = window is editor.shown_focus, window.tag, window.look()
+    title = f"{'>' if is_focus else ' '}{'*' if editor.is_changed(tag) else ' '} {editor.name(tag)}"
     by: tuple = (title, is_focus, window.y, window.width, window.gutter, window.is_row)
     if layout is not None:
         colours = editor.colours
-        by += (first_number(editor, window), colours.attributes, layout, dot, spans_of(editor, window))
+        by += (first_number(editor, window), colours.attributes, layout, dot, colours.of(window))
     before = window.drawn
     if before is None or before.by != by:
         window.drawn = (None if before is None else drawn_after(by, before)) or drawn_anew(by, before)
     return window.drawn
-
-
-def spans_of(editor: Editor, window: Window) -> Dict[int, Spans]:
-    """The colours of the lines that a window shows. A line that keys change which wait is plain, until they have acted."""
-    spans, ahead = editor.colours.of(window), window.shown_ahead
-    if ahead is None or not spans:
-        return spans
-    before = {start: line for start, line in spans.items() if start < line_start(window.read, ahead.start)}
-    return {**before, **{start + ahead.grown: line for start, line in spans.items() if start > ahead.start + ahead.gone}}
 
 
 def drawn_after(by: tuple, before: Drawn) -> Optional[Drawn]:
@@ -359,9 +349,8 @@ def first_number(editor: Editor, window: Window) -> Tuple:
     """The number of the line in which a window begins, where it is known, and whether it begins there; empty where it shows none."""
     if window.is_row or not window.gutter:
         return ()
-    ahead, top = window.shown_ahead, window.shown().layout.top
-    number, text = editor.numbers.line(window.tag, top) if ahead is None or top <= ahead.start else None, ahead or window
-    return number, top == 0 or text.read(top - 1, 1) == "\n"
+    top = window.layout().top
+    return editor.numbers.line(window.tag, top), top == 0 or window.read(top - 1, 1) == "\n"
 
 
 def numbers_of(rows: List[Row], gutter: int, number: Optional[int], begins: bool) -> List[List[Run]]:
@@ -423,7 +412,7 @@ def status(editor: Editor, link: PersistentSession) -> str:
     name, file = editor.name(window.tag), window.look().file
     parts = [("…" + name[-MOST_IN_STATUS:] if len(name) > MOST_IN_STATUS else name) + (" *" if editor.is_changed(window.tag) else "")]
     if file.is_open:
-        parts += place_of(editor, window, file.len)
+        parts += place_of(editor, window, window.length)
     if editor.is_lost:
         parts.append("HOST LOST")
     elif editor.has_details:
@@ -439,10 +428,8 @@ def status(editor: Editor, link: PersistentSession) -> str:
 
 def place_of(editor: Editor, window: Window, length: int) -> List[str]:
     """The line of the caret, of how many; with details the selection, of how many characters, and the line. Each as far as it is known."""
-    ahead, tag, (_, dot, caret, _) = window.shown_ahead, window.tag, window.shown()
-    line = editor.numbers.line(tag, caret if ahead is None else ahead.start)
-    if line is not None and ahead is not None:
-        line += ahead.came.count("\n")
+    tag, (_, dot, caret, _) = window.tag, window.look()
+    line = editor.numbers.line(tag, caret)
     if editor.has_details:
         return [f"{dot[0]},{dot[1]} of {length}" + (f", line {line}" if line is not None else "")]
     count = editor.numbers.count(tag, length)
@@ -453,25 +440,18 @@ def place_of(editor: Editor, window: Window, length: int) -> List[str]:
 
 def counts_of(editor: Editor, link: PersistentSession) -> List[str]:
     """What waits: in short, or with details."""
-    state, way = editor.terminal.state(), editor.way
-    held = state.held + len(editor.deferred)
+    terminal, way = editor.terminal, editor.way
     if not editor.has_details:
-        return ["keys wait"] if held > keys_ahead(editor) else []
-    counts = [f"{name} {count}" for name, count in (("held", held), ("unsent", state.unsent), ("waiting", len(link.waiting))) if count]
+        return ["keys wait"] if editor.deferred else []
+    held = terminal.held + len(editor.deferred)
+    counts = [f"{name} {count}" for name, count in (("held", held), ("unsent", terminal.unsent), ("waiting", len(link.waiting))) if count]
     is_told = way.told > 0 and not editor.is_lost and not way.is_broken
     return counts + ([f"{way.told} on the way"] if is_told else [])
 
 
-def keys_ahead(editor: Editor) -> int:
-    """How many keys wait of which the screen shows what they do."""
-    if not editor.deferred:
-        return 0
-    return sum(ahead.keys for ahead in (window.shown_ahead for window in editor.windows) if ahead is not None)
-
-
 def locks_of(editor: Editor) -> str:
     """What an edit would wait for."""
-    if editor.terminal.command_locked or editor.vault.is_busy:
+    if editor.terminal.command_locked:
         return "locked: all"
     locked = [window for window in editor.windows if editor.terminal.locked(window.tag)]
     if not locked:
@@ -482,7 +462,7 @@ def locks_of(editor: Editor) -> str:
 def cursor_of(editor: Editor) -> Optional[Tuple[int, int]]:
     """Where the cursor stands; None where it is not to be seen."""
     window, menu = editor.shown_focus, editor.shown_menu
-    _, _, caret, layout = window.shown()
+    _, _, caret, layout = window.look()
     if (menu is not None and menu.is_box) or layout is None or not layout.shows(caret):
         return None
     row, column = layout.position_of(caret)

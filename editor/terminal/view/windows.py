@@ -2,8 +2,9 @@
 from typing import NamedTuple, Optional, Tuple
 
 from .layout import Layout, line_start, row_start, top_above
-from sulgrevad import FileState, Terminal
+from sulgrevad import FileState
 from ..keys.motions import Targets
+from ..text.client_terminal import ClientTerminal
 from ..text.texts import GAP, Change, Changes, Texts
 
 MOST_STRETCHES, MOST_IN_STRETCH = 64, 512  # that are asked for at once, so that no key waits long, and the runes of each
@@ -12,7 +13,7 @@ GUTTER, LEAST_WITH_NUMBERS = 8, 40  # columns of the numbers of lines, with a bl
 HEAD = 11  # columns of the title of the command window where that stands before its one row, with a blank
 
 
-def ask(terminal: Terminal, tag: int, top: int, end: int, page: int, turns: int = 0) -> None:
+def ask(terminal: ClientTerminal, tag: int, top: int, end: int, page: int, turns: int = 0) -> None:
     """Asks for what stands from `top` to `end`, and for a page of so many runes on either side, in one round trip; also for as many pages
     below as page keys wait, or above where `turns` is negative, as far as one Load goes."""
     most = max(0, MOST_IN_LOAD - (end - top) - 2 * page)
@@ -24,7 +25,7 @@ def ask(terminal: Terminal, tag: int, top: int, end: int, page: int, turns: int 
     terminal.load(tag, start, last - start)
 
 
-def end_of_load(terminal: Terminal, tag: int, start: int, end: int) -> int:
+def end_of_load(terminal: ClientTerminal, tag: int, start: int, end: int) -> int:
     """Where a Load has to end that begins at a place and asks for all its gaps at once. Of a longer one the others would come one by one,
     in a round trip each, and lock the file all the while."""
     place = start
@@ -32,8 +33,7 @@ def end_of_load(terminal: Terminal, tag: int, start: int, end: int) -> int:
         gap = terminal.first_gap(tag, place)
         if gap is None or gap >= end:
             return end
-        runes = terminal.read(tag, gap, min(MOST_IN_STRETCH, end - gap))
-        place = gap + next((at for at, rune in enumerate(runes) if rune is not None), len(runes))
+        place = terminal.end_of_gap(tag, gap, min(gap + MOST_IN_STRETCH, end))
     return min(place, end)
 
 
@@ -76,8 +76,6 @@ class Window:
         self._loaded: Optional[Layout] = None  # what is shown, where all of it is loaded and the terminal was told so
         self._is_shifted = False  # text above it changed, so that it may not begin with a row any more
         self.drawn = None  # its rows as the screen has drawn them
-        self.ahead = None  # its text after keys that wait, where it is known what they do
-        self._shown_ahead: Tuple[tuple, Optional[Layout]] = ((), None)  # by what the layout of that goes, and that
         self._turns = False  # the user turns pages, and those on either side were not asked for yet
 
     # ---- Reading
@@ -88,8 +86,13 @@ class Window:
 
     @property
     def is_settled(self) -> bool:
-        """Whether the file is open, and places that are read now are those that an event made now acts on."""
-        return self.terminal.held == 0 and not self.terminal.locked(self.tag) and self.is_open
+        """Whether the file is open, and no answer that is due sets its selection."""
+        return self.terminal.is_settled(self.tag)
+
+    @property
+    def may_ask(self) -> bool:
+        """Whether nothing is asked of the host for it."""
+        return self.is_settled and not self.terminal.locked(self.tag)
 
     @property
     def length(self) -> int:
@@ -116,8 +119,7 @@ class Window:
     @property
     def sight(self) -> tuple:
         """What it shows, but for the text and the selection."""
-        ahead = None if self.ahead is None else self.ahead.change
-        return self.tag, self._top, self.y, self.height, self.width, self.gutter, self.is_row, ahead
+        return self.tag, self._top, self.y, self.height, self.width, self.gutter, self.is_row
 
     def read(self, place: int, count: int) -> str:
         return self.texts.read(self.tag, place, count)
@@ -128,34 +130,7 @@ class Window:
         if not file.is_open:
             return Look(file)
         dot = self.dot
-        return Look(file, dot, self._moving_end(dot), self._layout_at(file.len))
-
-    def shown(self) -> Look:
-        """What the screen shows of it: also what keys do that wait, where that is known."""
-        look, ahead = self.look(), self.shown_ahead
-        return look if ahead is None else Look(look.file, ahead.dot, ahead.caret, self._shown_ahead[1])
-
-    @property
-    def shown_ahead(self):
-        """The text after keys that wait, where the screen shows that."""
-        layout = None if self.ahead is None else self.look().layout
-        return None if layout is None or self._layout_ahead(layout) is None else self.ahead
-
-    def _layout_ahead(self, layout: Layout) -> Optional[Layout]:
-        """The rows that the window shows once these keys have acted; None where that isn't known."""
-        ahead = self.ahead
-        by = (ahead.change, self.texts.versions.get(self.tag, 0), self._top, self.width, self.height)
-        if self._shown_ahead[0] != by:
-            found: Optional[Layout] = None
-            likely = self._likely(layout)
-            if ahead.start >= layout.top:
-                found = Layout(ahead.read, layout.top, self.width, self.height, likely)
-            if found is not None and not found.shows(ahead.caret):
-                start, rows = row_start(ahead.read, ahead.caret, self.width), self._rows_above(ahead.caret, found)
-                top, is_known, _ = top_above(ahead.read, start, rows, self.width)
-                found = Layout(ahead.read, top, self.width, self.height, likely) if is_known else None
-            self._shown_ahead = by, found
-        return self._shown_ahead[1]
+        return Look(file, dot, self._moving_end(dot), self._layout_at(self.length))
 
     def layout(self) -> Layout:
         """The rows that the window shows."""
@@ -247,7 +222,7 @@ class Window:
     def _reach(self) -> None:
         """Shows what was aimed at, where the text above it has come. Of a line that is longer, no place is known at which a row begins: it
         is shown from where it is loaded."""
-        if self._aim is None or not self._aim.is_asked or not self.is_settled:
+        if self._aim is None or not self._aim.is_asked or not self.may_ask:
             return
         place = min(self._aim.place, self.length)
         self._show_below(place, self._aim.rows)
@@ -291,13 +266,13 @@ class Window:
     def _load(self, is_busy: bool, turns: int) -> None:
         """Tells the terminal what is shown, and asks for what of it is not loaded."""
         layout = self.layout()
-        if layout is self._loaded or not self.is_settled:
+        if layout is self._loaded or not self.may_ask:
             return
         gap = self.terminal.first_gap(self.tag, layout.top)
         has_all = gap is None or gap >= layout.end
         if has_all and self._aim is None:
             self._loaded = layout
-            if self.terminal.view_of(self.tag) != (layout.top, layout.top):  # an empty view asks for nothing by itself: `ask` does at once
+            if self.terminal.file(self.tag).view != (layout.top, layout.top):  # an empty view asks for nothing by itself, `ask` does
                 self.terminal.view(self.tag, layout.top, 0)
         elif has_all or not (is_busy and layout.top <= self.caret <= gap and layout.top < gap):
             end = layout.end if self._aim is None else max(layout.end, self._aim.place)
@@ -308,7 +283,7 @@ class Window:
     def _load_beside(self) -> None:
         """Asks for the pages on either side of one that the page keys led to, so that the next of these need not wait."""
         layout = self.layout()
-        if layout is not self._loaded or not self.is_settled:
+        if layout is not self._loaded or not self.may_ask:
             return
         self._turns, page = False, layout.end - layout.top
         gap = self.terminal.first_gap(self.tag, max(0, layout.top - page))

@@ -31,7 +31,7 @@ LONG = "".join(LINES)
 
 def check_nothing_is_loaded_without_a_line(folder):
     """While the line is lost nothing is asked for, and a key that needs text which isn't loaded says so."""
-    pair, editor, key, text = in_a_small_window(True)
+    pair, editor, key, text = in_a_small_window()
     line = pair.take_line(Line())
     line.is_broken = True
     pair.wait(4)
@@ -42,7 +42,7 @@ def check_nothing_is_loaded_without_a_line(folder):
         expect(not editor.deferred, f"{name} waits")
     expect(not loads, f"it loads {loads}")
     editor.take(text("x"))
-    expect(pair.terminal.read(1, 0, 1) == ["x"], "what is typed doesn't stand at the caret")
+    expect(list(pair.terminal.runes(1, 0, 1)) == ["x"], "what is typed doesn't stand at the caret")
     line.is_broken = False
     pair.finish()
     expect(pair.host.text(1) == "x" + MANY_LINES, "the host has another text")
@@ -56,7 +56,7 @@ def check_long_text_beside_keys(folder):
         pair.terminal.load(1, gap, min(MOST_LOADED, pair.terminal.len(1) - gap))
         pair.trip()
     editor.take(text("x"))
-    wanted = pair.terminal.text(1)
+    wanted = pair.terminal.runes(1, 0, pair.terminal.len(1))
     line.is_broken, line.silence = True, 11.0
     os.chdir(folder)
     try:
@@ -80,7 +80,7 @@ def check_long_text_beside_keys(folder):
 
 def check_slices(folder):
     """While the user rests the whole text is loaded; while keys come nothing is asked for."""
-    pair, editor, key, text = in_a_small_window(True)
+    pair, editor, key, text = in_a_small_window()
     pair.take_line(Line())
     pair.finish(3)
     expect(pair.terminal.first_gap(1) is None, "the text is not loaded whole")

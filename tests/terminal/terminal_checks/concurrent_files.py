@@ -16,30 +16,40 @@ def go_to(pair, tag):
     expect(pair.editor.focus.tag == tag, f"this test is wrong: keys go to {pair.editor.focus.tag}")
 
 
-def locked(*texts, name="^W"):
-    """An editor whose first file waits for the host, and has the keys."""
+def locked(*texts, name="look"):
+    """An editor whose first file waits for the host, and has the keys. The host looks for nothing, so it selects nothing."""
     pair, editor, key, text = opened(*texts)
     go_to(pair, 1)
     pair.terminal.set_snarf("pasted ")
     pair.press(text("."))
-    editor.take(key(name))
-    expect(pair.terminal.locked(1), "this test is wrong: the file is not locked")
+    if name == "look":
+        pair.terminal.look(1)
+    else:
+        editor.take(key(name))
+    expect(pair.terminal.locked(1) or editor.pasting, "this test is wrong: the file is not locked")
     return pair, editor, key, text
 
 
+def asked(pair):
+    """How much was asked for: what the terminal has, and what waits."""
+    return pair.terminal.state().events + pair.terminal.held
+
+
 def shown(pair, tag):
-    return pair.terminal.text(tag, 0, pair.terminal.len(tag))
+    return pair.terminal.runes(tag, 0, pair.terminal.len(tag))
 
 
 def check_keys_of_another_file(folder):
-    """While keys wait for a locked file those of others act at once, and so do keys and clicks that lead there; none goes elsewhere."""
-    for name, before in (("^W", ""), ("^V", "pasted ")):
+    """While keys wait for a locked file those of others act at once, and so do keys and clicks that lead there; none goes elsewhere. What is
+    typed behind `^V` waits for nothing."""
+    for name, before in (("look", ""), ("^V", "pasted ")):
         pair, editor, key, text = locked("one\n", "two\n", "three\n", name=name)
         second, third = (editor.window_of(tag) for tag in (2, 3))
         for each in (text("x"), key("^P"), text("y"), key("^End"), key("Backspace"), key("^Z"), text("!")):
             editor.take(each)
         expect(shown(pair, 2) == "ytwo\n!", f"{name}: the second file has {shown(pair, 2)!r}")
-        expect(editor.focus is second and len(editor.deferred) == 1, f"{name}: {len(editor.deferred)} keys wait, of {editor.focus.tag}")
+        waits = name == "look"
+        expect(editor.focus is second and len(editor.deferred) == waits, f"{name}: {len(editor.deferred)} keys wait, of {editor.focus.tag}")
         for what in ("press", "release"):
             editor.take(pair.keys.Mouse(what, third.y + 1, 3, 0.0))
         editor.take(text("z"))
@@ -47,7 +57,7 @@ def check_keys_of_another_file(folder):
         for each in (key("Esc"), text("1,$p"), key("^O"), text("file0"), text("\n"), text("w")):
             editor.take(each)
         expect(shown(pair, 0) == "1,$p" and editor.focus.tag == 1, f"{name}: the command window has {shown(pair, 0)!r}")
-        expect(shown(pair, 1) in (".one\n", before), f"{name}: the first file has {shown(pair, 1)!r} already")
+        expect(shown(pair, 1) == (".one\n" if waits else ".xwone\n"), f"{name}: the first file has {shown(pair, 1)!r} already")
         pair.finish()
         got = [pair.host.text(tag) for tag in range(4)]
         expect(got == ["1,$p", f".{before}xwone\n", "ytwo\n!", "thrzee\n"], f"{name}: the texts are {got}")
@@ -107,7 +117,7 @@ def check_screen_keys_behind_a_click(folder):
             go_to(pair, 1)
             window = editor.focus
             pair.press(text("."))
-            editor.take(key("^W"))
+            pair.terminal.look(1)
             keys = [pair.keys.Mouse(what, window.y + 5, 3, 0.0) for what in ("press", "release")] + [key("Down"), key(name)]
             for each in keys if name != "^Y" else [*keys[:3], key("^P"), key("^P"), key(name)]:
                 editor.take(each)
@@ -125,9 +135,9 @@ def check_new_and_close_beside_a_locked_file(folder):
     or to the window that stays."""
     for name, wanted, focus in (("^N", [".xone\n", "two\n", "three\n", "y"], 4), ("^K", [".xyone\n", None, "three\n"], 1)):
         pair, editor, key, text = beside_a_locked_file()
-        events = pair.terminal.events
+        events = asked(pair)
         editor.take(key(name))
-        expect(pair.terminal.events > events, f"{name} waits for another file")
+        expect(asked(pair) > events, f"{name} waits for another file")
         editor.take(text("y"))
         pair.finish()
         got = [pair.host.text(tag) if pair.host.has_file(tag) else None for tag in range(1, len(wanted) + 1)]
@@ -135,10 +145,10 @@ def check_new_and_close_beside_a_locked_file(folder):
         pair.check()
     for name, wanted in (("^N", [".xone\n", "two\n", "y"]), ("^K", [None, "ytwo\n"])):
         pair, editor, key, text = locked("one\n", "two\n")
-        events = pair.terminal.events
+        events = asked(pair)
         for each in (text("x"), *[key("^W")] * (name == "^K"), key(name), text("y")):
             editor.take(each)
-        expect(pair.terminal.events == events, f"{name} comes before the keys of its own file")
+        expect(asked(pair) == events, f"{name} comes before the keys of its own file")
         pair.finish()
         got = [pair.host.text(tag) if pair.host.has_file(tag) else None for tag in range(1, len(wanted) + 1)]
         expect(got == wanted, f"{name}: the texts are {got}")
@@ -208,8 +218,10 @@ def check_what_files_share(folder):
 def check_typed_text_of_each_file_is_kept(folder):
     """What was typed into files that wait when the host is lost is kept, of each by itself."""
     pair, editor, key, text = locked("one\n", "two\n")
-    for each in (text("first"), key("^P"), text("!"), key("^W"), text("second")):
+    for each in (text("first"), key("^P"), text("!")):
         editor.take(each)
+    pair.terminal.look(2)
+    editor.take(text("second"))
     with kept_texts() as kept:
         editor.lose("the host is gone")
     typed = [text for name, text in kept if name == "typed"]
@@ -266,7 +278,7 @@ def check_several_files_as_quick(folder):
         slow.finish()
         ends = [
             (
-                {tag: pair.host.text(tag) for tag in pair.terminal.files()}, pair.host.snarf(),
+                {tag: pair.host.text(tag) for tag in pair.files()}, pair.host.snarf(),
                 [(window.tag, window.is_open and window.dot) for window in (pair.editor.focus, pair.editor.active, *pair.editor.windows)],
             )
             for pair in (quick, slow)
@@ -280,7 +292,7 @@ def check_tab_over_what_is_not_loaded(folder):
     so."""
     from terminal.keys.motions import MOST_TO_INDENT
 
-    pair, editor, key, text = in_a_small_window(False)
+    pair, editor, key, text = in_a_small_window()
     lines = pair.host.text(1)
     pair.press(key("^A"), text("\t"))
     wanted = "".join("\t" + line for line in lines.splitlines(True))

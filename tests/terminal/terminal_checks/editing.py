@@ -87,17 +87,16 @@ def check_on_the_way(folder):
 
 
 def check_crossing(folder):
-    """A paste is under way: what is typed into the file meanwhile waits, and comes in after what was pasted."""
-    long = "ab" * 2500  # a shorter text is pasted here, by typing it
+    """A long text is cut and pasted over a slow line: all shows at once, and what is typed then stands behind what was pasted."""
+    long = "ab" * 2500
     (path,) = made(folder, a=f"{long}c\n")
     with Session(folder, "a.txt", slow=SLOW_TRIP, width=160) as session:
         session.wait_for("abab")
         session.wait_for_quiet()
         session.keys("S-End", "S-Left", "C-x", "C-v", "C-v")
-        wait_until(lambda: session.held() == 1, "the second paste doesn't wait for the first")
         session.type("typed")
-        wait_until(lambda: session.held() > 1, "what is typed doesn't wait")
-        expect(session.rows("a.txt")[0] == "c", f"the text is {session.rows('a.txt')}")
+        session.wait_for("typedc")
+        expect(not session.held(), f"keys wait: {session.status()}")
         session.wait_for_quiet()
         session.keys("C-w")
         wait_for_text(path, f"{long}{long}typedc\n")

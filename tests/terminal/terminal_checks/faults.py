@@ -9,7 +9,7 @@ import subprocess
 import sys
 from pathlib import Path
 
-from .pairs import Line
+from .pairs import Ends, Line
 from .support import ROOT, SAMHOST_WORD, SAMTERM, SAMTERM_WORD, Failed, Session, expect, made, stat_of, wait_for_text, wait_until
 
 
@@ -166,11 +166,12 @@ class Fed:
     """An editor that is fed a host's frames, and what it tells of them."""
 
     def __init__(self, numbers):
-        import sulgrevad
         from terminal.editor import Editor
+        from terminal.text.client_terminal import ClientTerminal
         from terminal.text.texts import GAP
 
-        self.terminal = sulgrevad.Terminal()
+        self.ends = Ends()
+        self.terminal = ClientTerminal(self.ends.client)
         self.editor = Editor(self.terminal, Line())
         self.told, self.tags, self.loaded = [], (1, 2), {}  # what is told of edits; the files, and their texts as far as they are loaded
         self.editor.texts.listeners.append(self.told.extend)
@@ -178,10 +179,14 @@ class Fed:
             text = "".join(numbers.choice("ab\n日") for _ in range(400))
             parts = numbers.choice(([], [(0, 400)], [(at, at + 9) for at in range(0, 390, numbers.randrange(10, 200))]))
             self.loaded[tag] = "".join(rune if any(start <= at < end for start, end in parts) else GAP for at, rune in enumerate(text))
-            self.editor.feed(b"".join(opening(tag, text, parts)))
+            self.feed(b"".join(opening(tag, text, parts)))
             self.editor.window_of(tag)._top = numbers.randrange(len(text))
             self.editor.numbers.set(tag, numbers.randrange(len(text)), 7)
         self.editor.log.goes = "a"
+
+    def feed(self, data=b""):
+        self.ends.bring(data)
+        self.editor.go_on()
 
     def lengths(self):
         return {tag: self.terminal.len(tag) for tag in self.tags}
@@ -213,7 +218,7 @@ def check_stream_in_pieces(folder):
         got = [one_by_one.editor.texts.read(tag, 0, 400) for tag in texts]
         expect(got == list(texts.values()), f"seed {seed}: it reads {got}, wanted {texts}")
         for each in frames:
-            one_by_one.editor.feed(each)
+            one_by_one.feed(each)
             kind, tag, place = each[0], *struct.unpack_from(">HI", each + bytes(4), 11)
             text, came = texts[tag], ""
             if kind == GROWDATA:
@@ -230,18 +235,18 @@ def check_stream_in_pieces(folder):
         for most in (1, 7, 60, 500, 1_000_000):
             fed = Fed(random.Random(seed))
             for piece in pieces_of(random.Random(seed + most), b"".join(frames), most):
-                fed.editor.feed(piece)
+                fed.feed(piece)
             expect(fed.state() == state, f"seed {seed}, {most} bytes: {fed.state()}, wanted {state}")
 
 
 def check_stream_without_memory(folder):
-    """Where memory is wanting now and then no edit is lost, and none is told twice, though some of them wait in the terminal."""
-    from sulgrevad import Status, sides
+    """Where memory is wanting now and then no edit is lost, and none is told twice, though some of them wait in the client."""
+    from sulgrevad import Status, client
 
     class Short:
         """The library, which at some calls of two has no memory."""
 
-        REFUSED = {"sam_term_bring": Status.NO_MEMORY, "sam_term_step": Status.UNFINISHED}
+        REFUSED = {"sam_client_next_event": Status.UNFINISHED}
 
         def __init__(self, library, is_short):
             self.library, self.is_short = library, is_short
@@ -257,16 +262,15 @@ def check_stream_without_memory(folder):
     for seed in range(40):
         quick, slow = Fed(random.Random(seed)), Fed(random.Random(seed))
         frames = some_edits(random.Random(seed), quick.lengths())
-        quick.editor.feed(b"".join(frames))
-        numbers, library = random.Random(seed), sides.LIBRARY
-        sides.LIBRARY = Short(library, lambda: numbers.random() < 0.3)
+        quick.feed(b"".join(frames))
+        numbers, library = random.Random(seed), client.LIBRARY
+        client.LIBRARY = Short(library, lambda: numbers.random() < 0.3)
         try:
             for piece in [*pieces_of(numbers, b"".join(frames), 300), *[b""] * 1000]:
                 with contextlib.suppress(MemoryError):
-                    slow.editor.feed(piece)
+                    slow.feed(piece)
         finally:
-            sides.LIBRARY = library
-        expect(not slow.editor.stream.is_waiting, f"seed {seed}: bytes stay")
+            client.LIBRARY = library
         expect(slow.state() == quick.state(), f"seed {seed}: {slow.state()}, wanted {quick.state()}")
 
 
@@ -289,7 +293,7 @@ def check_stream_with_faults(folder):
             taken = 0
             try:
                 for piece in pieces_of(numbers, good + (wrong + bytes(40))[: max(at, len(wrong))], most):
-                    fed.editor.feed(piece)
+                    fed.feed(piece)
                     taken += len(piece)
                 raise Failed(f"{wrong}: it is taken")
             except SamError:

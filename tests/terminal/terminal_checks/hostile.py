@@ -10,7 +10,6 @@ import signal
 import sys
 import threading
 import time
-from collections import deque
 from pathlib import Path
 from types import SimpleNamespace
 
@@ -127,7 +126,7 @@ def check_signal_while_it_is_held_up(folder):
     curses.setupterm("xterm", os.open("/dev/null", os.O_WRONLY))
     late = []
     editor = SimpleNamespace(is_over=False, take_late=late.extend, arrange=lambda *size: None)
-    turns = loop.Loop(None, None, SimpleNamespace(size=(20, 80)), editor, None)
+    turns = loop.Loop(SimpleNamespace(read_anew=lambda: None), None, SimpleNamespace(size=(20, 80)), editor, None)
     turns.keys.append("typed")
 
     def held_up():
@@ -154,7 +153,7 @@ def check_name_of_the_session(folder):
 
         line = persistent_session.PersistentSession(["sleep", "100"], lambda name: [])
         old = line.name
-        line._meet(write_note(first_message(name.encode().decode("unicode_escape").replace("\0", "?").encode())))
+        line.meet(write_note(first_message(name.encode().decode("unicode_escape").replace("\0", "?").encode())))
         told = line._told_of()
         line.close(print, seconds=0)
         expect(line.name == old and len(told) == 1 and "no name" in told[0], f"{name!r}: it is {line.name}, told {told!r}")
@@ -181,9 +180,9 @@ def check_wrong_messages_end_nothing(folder):
 
     pair, editor, _, text = opened("a\n")
     line = persistent_session.PersistentSession(["sleep", "100"], lambda name: [])
-    line._meet(write_note(first_message()))
+    line.meet(write_note(first_message()))
     for data in messages:
-        note = line._meet(data)
+        note = line.meet(data)
         if note is not None:
             editor.hear(note)
         pair.finish()
@@ -198,7 +197,7 @@ def check_host_of_another_version(folder):
 
     for first in (b"session 0123456789abcdef box", write_note(first_message(version=2)), write_note(said("a word")), b""):
         line = persistent_session.PersistentSession(["sleep", "100"], lambda name: [])
-        line._meet(first)
+        line.meet(first)
         line.close(print, seconds=0)
         expect(line.is_lost and "another version" in line.why, f"{first!r}: it goes on, {line.why!r}")
     with OnTerminal(folder, "a.txt", "b.txt", host=hostile("notes", b"session 0123456789abcdef box".hex())) as terminal:
@@ -212,7 +211,7 @@ def check_files_of_names_that_are_ours(folder):
     pair.finish()
     editor = pair.editor
     expect([editor.name(tag) for tag in editor.tags] == names, f"the files are {[editor.name(tag) for tag in editor.tags]}")
-    expect(not editor.left.all and editor.vault.tag is None, "one of them is taken for a hidden one")
+    expect(not editor.left.all and not editor.session_files.hidden, "one of them is taken for a hidden one")
 
 
 def check_floods(folder):
@@ -274,21 +273,6 @@ class Steps:
         return costs[-3] if len(costs) > 20 else costs[-1]
 
 
-class Told:
-    """A link that brings what a host has said, so much at once as a pipe does."""
-
-    is_lost = False
-
-    def __init__(self, data):
-        self.data = data
-
-    def take(self, ready):
-        from terminal.line.host_process import MOST_AT_ONCE
-
-        piece, self.data = self.data[:MOST_AT_ONCE], self.data[MOST_AT_ONCE:]
-        return [piece] if piece else []
-
-
 def steps_of_names():
     """The steps in which samterm takes 65,000 names, and what comes after them, each with what the screen shows then."""
     from terminal import loop
@@ -300,12 +284,16 @@ def steps_of_names():
     pair.settle()
     pair.host.feed(bytes(pair.up))
     pair.up.clear()
-    turns.terminal, turns.editor, turns.link = pair.terminal, editor, Told(pair.host.take_out())
-    turns._came, turns.is_short = deque(), False
-    while turns.link.data or turns._came:
-        with steps.step("names" if turns.link.data or len(turns._came) > 1 else "the last names"):
+    pair.ends.bring(pair.host.take_out())
+    turns.terminal, turns.editor, turns.link = pair.terminal, editor, SimpleNamespace(is_lost=False, take=lambda ready: [])
+    pair.terminal.clock = time.monotonic
+    turns._is_behind, turns.is_short = True, False
+    while turns._is_behind:
+        with steps.step("names"):
             turns._take_bytes({})
-            pair.settle()
+            editor.update()
+    pair.terminal.clock = lambda: pair.now
+    pair.settle()
     while editor.left.seconds == 0:
         with steps.step("texts that are here"):
             editor.update()
@@ -318,7 +306,7 @@ def steps_of_names():
         pair.finish()
     changed = Note(NoteKind.CHANGED, tag=8, path=b"file7", text="file7: another program changed it")
     pair.host.mark_dirty(65_000)
-    editor.feed(pair.host.take_out())
+    pair.feed(pair.host.take_out())
     for told in (not_saved(65_000), aside(64_999), changed):
         with steps.step(told.text):
             editor.hear(told)

@@ -24,7 +24,7 @@ OTHERS = ("Left", "^Z", "Down", "Home")
 
 def slow(*texts, size=(20, 80), speed=1_000_000, each_way=0.3, seed=1):
     """A pair in a session that stays, over a line that carries so many bytes a second, so many seconds each way, by a clock of its own."""
-    pair = Pair(random.Random(seed), texts, has_vault=True)
+    pair = Pair(random.Random(seed), texts)
     pair.editor.arrange(*size)
     line = pair.take_line(Line())
     line.round_trip = 2 * each_way
@@ -56,7 +56,7 @@ def run_until(pair, when):
                     pair.free_at = max(pair.free_at, pair.now) + len(piece) / pair.speed
                     pair.coming.append((pair.free_at + pair.each_way, "down", piece))
             else:
-                pair.editor.feed(item[2])
+                pair.feed(item[2])
 
 
 def shown(pair, *windows):
@@ -83,7 +83,7 @@ def check_command_file_opens_at_rest(folder):
         until_text(pair)
         start, editor = pair.now, pair.editor
         editor.take(pair.keys.Text("x"))
-        expect(not editor.deferred and pair.terminal.read(1, 0, 1) == ["x"], "the first key waits")
+        expect(not editor.deferred and list(pair.terminal.runes(1, 0, 1)) == ["x"], "the first key waits")
         if name is None:
             run_until(pair, start + wanted - 0.1)
             expect(not pair.terminal.command_locked and not editor.command.is_open, "the command file is opened before")
@@ -160,7 +160,7 @@ def waits_for_a_load(pair, numbers):
             pair.editor.take(pair.keys.Key(name))
         run_until(pair, pair.now + numbers.choice((1.0, 3.0, 6.0)))
     for _ in range(400):
-        if not pair.editor.deferred and pair.terminal.is_kept(1):
+        if not pair.editor.deferred and pair.terminal.file(1).is_locked:
             return
         run_until(pair, pair.now + 0.02)
 
@@ -204,107 +204,123 @@ def waits_for_a_line(pair, numbers):
     run_until(pair, pair.now + numbers.choice((0.0, 0.1, 0.25)))
 
 
-def is_shown_ahead(pair, numbers, seed):
-    """Whether keys that come now are shown at once; if so, they show just what stands there once they have acted."""
-    editor, key = pair.editor, pair.keys.Key
-    if editor.deferred or not pair.terminal.is_kept(1):
+def are_shown_at_once(pair, numbers, seed):
+    """Whether a lock is held; if so, keys that come now are shown at once, and the host has then what is shown."""
+    editor, window = pair.editor, pair.editor.active
+    if editor.deferred or not pair.terminal.file(1).is_locked:
         return False
     for at in range(numbers.randrange(1, 12)):
-        name = numbers.choice(KEYS)
-        editor.take(key(name) if name == "Backspace" else pair.keys.Text(name))
+        name, (start, end), before = numbers.choice(KEYS), window.dot, window.read(0, window.length)
+        editor.take(pair.keys.Key(name) if name == "Backspace" else pair.keys.Text(name))
+        if editor.deferred and name in ("\n", "\n\n", "a\nb", "Backspace"):
+            break  # what it goes by is not loaded
+        expect(not editor.deferred, f"seed {seed}: {name!r} waits")
+        if name in ("x", "yz", "日"):
+            expect_equal(window.read(0, window.length), before[:start] + name + before[end:])
+    expect(pair.terminal.file(1).is_locked, f"seed {seed}: this test is wrong: the lock is gone")
     editor.update()
-    waiting = len(editor.deferred)
-    before = shown(pair, editor.active)
-    ahead = editor.active.ahead
-    if ahead is None or ahead.keys < waiting or not pair.terminal.is_kept(1):
-        return False
-    text = ahead.read(0, ahead.length)
-    while editor.deferred:
-        run_until(pair, pair.now + 0.01)
-        expect(not editor.is_lost, editor.message)
-    after = shown(pair, editor.active)
-    window = editor.active
-    loaded = window.read(0, window.length)
-    expect(len(loaded) == len(text), f"seed {seed}: {len(text)} runes were shown ahead, {len(loaded)} are there")
-    differ = [at for at, (one, other) in enumerate(zip(text, loaded)) if one not in (other, pair.gap)]
-    expect(not differ, f"seed {seed}: at {differ[:3]} another text was shown ahead than is there")
-    if "░" not in str(before[0]):  # what is missing may move the window as it comes
-        expect(before[1] == after[1], f"seed {seed}: the cursor stood at {before[1]}, and then at {after[1]}")
-        rows = [(y, before[0][y], after[0].get(y)) for y in before[0] if before[0][y] != after[0].get(y)]
-        expect(not rows, f"seed {seed}: other rows were shown ahead than are there: {rows[:2]}")
+    before, text = shown(pair, window), window.read(0, window.length)
+    is_done = not editor.deferred
+    until_rest(pair)
+    run_until(pair, pair.now + 2)
+    expect(not editor.is_lost, editor.message)
+    after, now, there = shown(pair, window), window.read(0, window.length), pair.host.text(1)
+    expect(len(now) == len(there) and all(one in (other, pair.gap) for one, other in zip(now, there)), f"seed {seed}: the host has another")
+    if is_done:
+        differ = [at for at, (one, other) in enumerate(zip(text, there)) if one not in (other, pair.gap)]
+        expect(len(text) == len(there) and not differ, f"seed {seed}: at {differ[:3]} the host has another text than was shown")
+        if "░" not in str(before[0]):  # what is missing may move the window as it comes
+            expect(before[1] == after[1], f"seed {seed}: the cursor stood at {before[1]}, and then at {after[1]}")
     return True
 
 
-def shown_ahead(waits, speed, *others):
-    """How often of 30 times keys are shown at once in the first text, where something waits. They show what stands there later."""
-    sizes = ((22, 80), (40, 120)) if others else ((12, 40), (22, 80), (40, 120))  # two rows of a text may begin elsewhere once keys act
+def shown_at_once(waits, speed, *others):
+    """How often of 30 times keys are typed while a file is locked. They are shown at once, and the host has them later."""
     seen = 0
     for seed in range(30):
         numbers = random.Random(seed)
-        pair = slow(numbers.choice(TEXTS), *others, speed=speed, seed=seed, size=numbers.choice(sizes))
+        pair = slow(numbers.choice(TEXTS), *others, speed=speed, seed=seed, size=numbers.choice(((12, 40), (22, 80), (40, 120))))
         waits(pair, numbers)
-        seen += is_shown_ahead(pair, numbers, seed)
+        seen += are_shown_at_once(pair, numbers, seed)
     return seen
 
 
 def check_keys_under_loads(folder):
-    """Typing, Backspace and Enter show at once while the file is loaded or the command file is opened, just as they stand there once they
-    have acted; and nothing shows of other keys, nor of those after them."""
-    seen = shown_ahead(waits_for_a_load, speed=20_000)
-    expect(seen >= 10, f"this test is wrong: it saw keys shown ahead {seen} times")
+    """Typing, Backspace and Enter show at once while the file is loaded or the command file is opened."""
+    seen = shown_at_once(waits_for_a_load, speed=20_000)
+    expect(seen >= 10, f"this test is wrong: a lock was held {seen} times")
 
 
 def check_keys_under_writes(folder):
     """They show at once, too, while the answer to a write is under way."""
-    seen = shown_ahead(waits_for_a_write, speed=1_000_000)
-    expect(seen >= 25, f"keys behind a write were shown at once {seen} times of 30")
+    seen = shown_at_once(waits_for_a_write, speed=1_000_000)
+    expect(seen >= 25, f"this test is wrong: a lock was held {seen} times of 30")
 
 
 def check_keys_under_lines(folder):
     """And so they do while a command line works on another file."""
-    seen = shown_ahead(waits_for_a_line, 1_000_000, "another text\n")
-    expect(seen >= 25, f"keys behind a command line were shown at once {seen} times of 30")
+    seen = shown_at_once(waits_for_a_line, 1_000_000, "another text\n")
+    expect(seen >= 25, f"this test is wrong: a lock was held {seen} times of 30")
 
 
 def check_other_keys_under_loads(folder):
-    """Keys of another kind, and those after them, wait under a load and don't show; and nothing is shown ahead under another lock."""
+    """Keys that move act at once, too, while a file is loaded or written; behind a search on the file, and behind a command line on it, all
+    keys wait for what that selects."""
     pair = slow(LONG, speed=20_000)
     until_text(pair)
     editor = pair.editor
-    while not pair.terminal.is_kept(1):
+    while not pair.terminal.file(1).is_locked:
         run_until(pair, pair.now + 0.02)
     for name in ("q", "Left", "r"):
         editor.take(pair.keys.Key(name) if len(name) > 1 else pair.keys.Text(name))
-    editor.update()
-    expect_equal((editor.active.ahead.came, editor.active.ahead.keys, len(editor.deferred)), ("q", 1, 3))
+    expect_equal((editor.active.read(0, 6), len(editor.deferred)), ("rqline", 0))
     run_until(pair, pair.now + 5)
     expect_equal(pair.host.text(1)[:6], "rqline")
     editor.take(pair.keys.Key("^W"))
     editor.take(pair.keys.Text("s"))
-    editor.update()
-    expect(pair.terminal.locked(1) and editor.deferred and editor.active.ahead is None, "a key is shown ahead while the file is written")
+    expect(pair.terminal.locked(1) and not editor.deferred, "a key waits while the file is written")
     pair, editor, key, text = opened(LONG, size=(20, 80))
+    for before, after in (([key("Shift-End"), key("^L")], ""), ([key("Esc"), key("^End"), text("2\n"), key("Esc")], "line 1 foo")):
+        for each in before:
+            editor.take(each)
+            pair.settle()
+        editor.take(text("s"))
+        expect(len(editor.deferred) >= 1, f"a key acts before {before[-1]} has selected")
+        pair.finish()
+
+
+def check_a_paste_that_is_asked_for(folder):
+    """What another put into the snarf buffer is asked for; what is typed meanwhile shows at once, and stands behind it."""
+    pair, editor, key, text = opened("one\n", size=(20, 80))
     pair.terminal.set_snarf("pasted")
     pair.finish()
-    pair.terminal.load(1, 20_000, 500)
-    pair.finish()
+    editor.take(key("End"))
     editor.take(key("^V"))
-    editor.take(text("s"))
-    editor.update()
-    expect(pair.terminal.locked(1) and editor.deferred and editor.active.ahead is None, "a key is shown ahead while the host pastes")
+    pair.settle()
+    for each in (text("s"), text("t")):
+        editor.take(each)
+        expect(not editor.deferred, f"{each} waits")
+    expect_equal(editor.active.read(0, 6), "onest\n")
+    editor.take(key("Backspace"))
+    expect(len(editor.deferred) == 1, "Backspace acts before the text has come")
+    pair.finish()
+    expect_equal(pair.host.text(1), "onepasteds\n")
+    pair.press(key("^Z"), key("^Z"), key("^Z"))
+    expect_equal(pair.host.text(1), "one\n")
 
 
 def check_keys_while_names_come(folder):
-    """While the host tells names, as where another program opens a file, typed keys show at once; where it makes a file they don't."""
+    """While the host tells names, as where another program opens a file, typed keys act; where it makes a file they wait."""
     for ask, wanted in (("offer_version", (2,)), ("new_file", ())):
-        pair, editor, _, text = opened(LONG, size=(20, 80))
+        pair, editor, key, text = opened(LONG, size=(20, 80))
         getattr(pair.terminal, ask)(*wanted)
+        if ask == "new_file":
+            editor.await_file()
         editor.take(text("s"))
-        editor.update()
-        expect(pair.terminal.locked(1) and editor.deferred, "this test is wrong: the key acts")
-        expect((editor.active.ahead is not None) == (ask == "offer_version"), f"{ask}: it shows {editor.active.ahead}")
+        expect((not editor.deferred) == (ask == "offer_version"), f"{ask}: {editor.deferred} waits")
         pair.finish()
-        expect(pair.host.text(1).startswith("sline"), f"{ask}: the text is {pair.host.text(1)[:20]!r}")
+        tag = 1 if ask == "offer_version" else 2
+        expect(pair.host.text(tag).startswith("s"), f"{ask}: the text is {pair.host.text(tag)[:20]!r}")
 
 
 def check_keys_of_a_start(folder):
@@ -516,7 +532,7 @@ def check_errors_help(folder):
 
 def loaded(*texts):
     """A pair with all of its texts loaded."""
-    pair, editor, key, text = opened(*texts, has_vault=True, size=(20, 80))
+    pair, editor, key, text = opened(*texts, size=(20, 80))
     while (gap := pair.terminal.first_gap(1)) is not None:
         pair.terminal.load(1, gap, min(900_000, pair.terminal.len(1) - gap))
         pair.trip()
@@ -582,7 +598,7 @@ def check_long_lines_that_stay_refused(folder):
         pair, editor, key, _ = loaded(before)
         told = run_line(pair, line)
         expect(pair.host.text(1) == before and words in told, f"{line}: it says {told!r}")
-    pair, editor, key, text = opened(before, has_vault=True, size=(20, 80))
+    pair, editor, key, text = opened(before, size=(20, 80))
     told = run_line(pair, ",x/ab/c/a/")
     expect(pair.host.text(1) == before and "loaded" in told, f"of a text that is not loaded it says {told!r}")
 

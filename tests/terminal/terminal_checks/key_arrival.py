@@ -25,7 +25,7 @@ def check_ends_of_long_lines(folder):
                 (("^End", "Left", "Up", "End", "Shift-Home", "^X"), "\nend\n"), (("Shift-End", "Z"), "Z\nend\n"),
                 (("^Right", "Z"), f"{line}Z\nend\n"), (("End", "^Left", "Z"), f"Z{line}\nend\n"),
             ):  # fmt: skip
-                pair, editor, key, text = opened(f"{line}\nend\n", has_vault=True, size=size)
+                pair, editor, key, text = opened(f"{line}\nend\n", size=size)
                 for name in keys:
                     editor.take(text(name) if name == "Z" else key(name))
                     pair.settle() if is_slow else pair.finish()
@@ -104,7 +104,7 @@ def check_a_click_waits_for_text(folder):
 
 def check_rows_begin_with_their_lines(folder):
     """Where a text grows above what a window shows, that still begins with a row of its line."""
-    pair, editor, key, text = opened("one x\n" + "word " * 400 + "\nend\n", has_vault=True, size=(20, 80))
+    pair, editor, key, text = opened("one x\n" + "word " * 400 + "\nend\n", size=(20, 80))
     pair.press(key("^End"), key("Esc"), text(",x/word/c/other/\n"), key("Esc"), key("Up"), key("Up"))
     for names in ((), ("Left", "x", "y")):
         pair.press(*(text(name) if name.islower() else key(name) for name in names))
@@ -129,7 +129,7 @@ def check_caret_after_a_line(folder):
     ):  # fmt: skip
         for keys in ((), ("x",)):
             for waits in (True, False):
-                pair, editor, key, text = opened(before, has_vault=True)
+                pair, editor, key, text = opened(before)
                 pair.press(key("^Right"), key("Right"), *[key("Shift-Right")] * 3)
                 for each in (key("Esc"), text(line + "\n"), key("Esc"), *map(text, keys)):
                     editor.take(each)
@@ -140,7 +140,7 @@ def check_caret_after_a_line(folder):
                 text_then, dot_then = (wanted[:start] + "x" + wanted[end:], (start + 1, start + 1)) if keys else (wanted, dot)
                 got = pair.host.text(1), editor.files[0].dot
                 expect(got == (text_then, dot_then), f"{line}, {keys}, one by one: {waits}: {got}, wanted {text_then!r}, {dot_then}")
-    pair, editor, key, text = opened("old " * 3000 + "end\n", has_vault=True, size=(20, 80))
+    pair, editor, key, text = opened("old " * 3000 + "end\n", size=(20, 80))
     pair.press(key("Esc"), text(",x/old/c/new/\n"), key("Esc"), text("x"))
     expect(pair.host.text(1) == "new " * 2999 + "newx end\n", f"where little is loaded it ends in {pair.host.text(1)[-20:]!r}")
     pair.press(key("^Z"), key("^Z"))
@@ -213,7 +213,7 @@ def check_esc_behind_any_key(folder):
             session.wait_to_go_to(COMMAND_WINDOW)
             if time.monotonic() - start > KNOWN_LATE:
                 raise Skipped("the machine is so busy that keys may be refused, as on a lost line")
-            wait_until(lambda: session.held() > 10, lambda: "nothing waits: this test is wrong\n" + "\n".join(session.screen()))
+            wait_until(lambda: session.held() > 4, lambda: "nothing waits: this test is wrong\n" + "\n".join(session.screen()))
         session.wait_for("N")
         session.wait_for_quiet()
         session.wait_to_go_to(COMMAND_WINDOW)
@@ -255,7 +255,7 @@ def check_esc_leads_where_it_shows(folder):
             quick.finish()
             second.take(tail)
             slow.finish()
-        ends = [({tag: pair.host.text(tag) for tag in pair.terminal.files()}, pair.editor.focus.tag) for pair in (quick, slow)]
+        ends = [({tag: pair.host.text(tag) for tag in pair.files()}, pair.editor.focus.tag) for pair in (quick, slow)]
         expect(ends[0] == ends[1], f"seed {seed}, {keys}: at once {ends[1]}, one by one {ends[0]}")
         if waits and not {"^T", "^Y"} & {each.name for each in keys if hasattr(each, "name")}:
             expect(shown == (second.focus is second.command), f"seed {seed}, {keys}: Esc shows another window than it leads to")
@@ -266,7 +266,7 @@ FREE = {"help", "switch", "next_window", "menu", "split", "unsplit", "small", "n
 
 
 def check_all_actions_wait(folder):
-    """Each key of each set waits while its file is locked, but for those whose action needs no settled place."""
+    """Each key of each set waits while a text is asked for that is to be pasted, but for those whose action needs no settled place."""
     from terminal.keys.bindings import KEY_SETS
 
     for name, binding, key_name in ((name, each, key) for name in KEY_SETS for each in KEY_SETS[name].bindings for key in each.keys):
@@ -274,7 +274,7 @@ def check_all_actions_wait(folder):
         pair.terminal.set_snarf("pasted")
         pair.finish()
         editor.take(key("^V"))
-        expect(pair.terminal.locked(editor.focus.tag), "this test is wrong: the file is not locked")
+        expect(editor.pasting is not None, "this test is wrong: nothing is asked for")
         editor.take(key(key_name))
         expect(bool(editor.deferred) == (binding.action not in FREE), f"{name}: {key_name} waits: {bool(editor.deferred)}")
 

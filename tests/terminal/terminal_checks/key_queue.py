@@ -39,7 +39,7 @@ def check_slow_as_quick(folder):
         slow.finish()
         got, wanted = (
             (
-                {tag: (pair.host.name(tag), pair.host.text(tag)) for tag in pair.terminal.files()},
+                {tag: (pair.host.name(tag), pair.host.text(tag)) for tag in pair.files()},
                 [(window.tag, window.is_open and window.dot) for window in (pair.editor.focus, *pair.editor.windows)],
             )
             for pair in (slow, quick)
@@ -63,16 +63,16 @@ def check_help_after_new_and_close(folder):
     for name, texts in (("^N", ["a\n", "b\n", "x"]), ("^K", ["xa\n"])):
         for help_key in ("F1", "^G"):
             pair, editor, key, text = opened("a\n", "b\n")
-            before = pair.terminal.files()
+            before = pair.files()
             editor.take(key(name))
             editor.take(key(help_key))
-            expect(editor.help is not None and pair.terminal.files() == before, f"{name}: {help_key} waits")
+            expect(editor.help is not None and pair.files() == before, f"{name}: {help_key} waits")
             for typed in (key("Esc"), key("F8"), text("x")):
                 editor.take(typed)
             is_waiting = editor.typed_ahead == "x" and not editor.is_small
             expect(editor.help is None and is_waiting, f"{name}: what is pressed after the help doesn't wait")
             pair.finish()
-            got = [pair.host.text(tag) for tag in pair.terminal.files() if tag]
+            got = [pair.host.text(tag) for tag in pair.files() if tag]
             expect(got == texts and editor.is_small, f"{name}: the texts are {got}")
 
 
@@ -277,7 +277,7 @@ def check_keys_while_opening(folder):
     pair = Pair(random.Random(1), ["a\n", "b\n"])
     pair.finish()
     editor, key, text = pair.editor, pair.keys.Key, pair.keys.Text
-    other = next(tag for tag in pair.terminal.files() if tag not in (0, editor.focus.tag))
+    other = next(tag for tag in pair.files() if tag not in (0, editor.focus.tag))
     editor.show(other)
     editor.take(key("^End"))
     editor.take(text("x"))
@@ -356,25 +356,21 @@ def check_window_of_one_row(folder):
 
 
 def check_no_memory(folder):
-    """Bytes of the host for which the terminal has no memory stay, and are fed again."""
+    """Bytes of the host for which there is no memory stay, and are taken again, before those that came since."""
     from sulgrevad import NoMemory, Status
+    from terminal.line import persistent_session
 
-    pair = Pair(random.Random(1), ["text"])
+    line, taken, is_short = persistent_session.PersistentSession(["sleep", "100"], lambda name: []), [], [True]
 
-    def refuse(data=b""):
-        del pair.terminal.bring
-        raise NoMemory(Status.NO_MEMORY)
+    def receive(attempt, data, now):
+        if is_short[0]:
+            raise NoMemory(Status.NO_MEMORY)
+        taken.append(data)
 
-    pair.host.feed(bytes(pair.up))
-    pair.up.clear()
-    told = pair.host.take_out()
-    pair.terminal.bring = refuse
-    try:
-        pair.editor.feed(told)
-        raise Failed("this test is wrong")
-    except NoMemory:
-        expect(pair.editor.stream.is_waiting, "bytes of the host are lost")
-    pair.editor.feed()
-    expect(not pair.editor.stream.is_waiting, "bytes of the host stay")
-    pair.finish()
-    pair.check()
+    line.client.receive = receive
+    line._hear(b"one ")
+    expect(taken == [] and line.delay() is not None and line.delay() <= 1, "bytes of the host are lost")
+    is_short[0] = False
+    line._hear(b"two")
+    expect(taken == [b"one two"], f"it takes {taken}")
+    line.close(print, seconds=0)

@@ -3,7 +3,7 @@ import time
 
 from checks import expect_equal
 
-from .pairs import LONG, in_a_small_window, opened
+from .pairs import LONG, Line, in_a_small_window, opened
 from .support import Session, expect, made, wait_for_text, wait_until
 
 
@@ -293,7 +293,7 @@ def check_line_too_long(folder):
 
 def check_calls_of_a_key(folder):
     """A key makes at most 25 calls of the library until it is drawn and sent, and so does the host's answer to it."""
-    from sulgrevad import sides, terminal
+    from sulgrevad import client, sides, terminal
 
     class Counting:
         """The library, with a count of its calls."""
@@ -302,13 +302,13 @@ def check_calls_of_a_key(folder):
             self.library, self.calls = library, 0
 
         def __getattr__(self, name):
-            self.calls += 1
+            self.calls += name.startswith("sam_client")
             return getattr(self.library, name)
 
     pair, editor, key, text = opened("one\ntwo\n" * 20)
     pair.finish()
     library = sides.LIBRARY
-    sides.LIBRARY = terminal.LIBRARY = counting = Counting(library)
+    sides.LIBRARY = terminal.LIBRARY = client.LIBRARY = counting = Counting(library)
     try:
         for typed in (text("x"), key("Left"), text("y"), key("Backspace")):
             counting.calls = 0
@@ -316,7 +316,7 @@ def check_calls_of_a_key(folder):
             pair.pause()
             expect(0 < counting.calls <= 25, f"{typed} makes {counting.calls} calls")
     finally:
-        sides.LIBRARY = terminal.LIBRARY = library
+        sides.LIBRARY = terminal.LIBRARY = client.LIBRARY = library
     pair.finish()
     expect(pair.host.text(1).startswith("xone") or pair.host.text(1).startswith("one"), "the keys are lost")
 
@@ -490,19 +490,22 @@ def check_clipboard(folder):
 
 
 def check_clipboard_not_loaded(folder):
-    """Where not all that is copied or cut is loaded the clipboard keeps what it has, and that is told."""
+    """What is copied or cut and isn't loaded is loaded before. Where that can't be, the clipboard keeps what it has, and that is told."""
     pair, editor, key, _ = opened("one two\n")
     for name in ("^C", "^X"):
         editor.clip = None
         pair.press(key("Home"), *[key("Shift-Right")] * 3, key(name))
         expect(editor.clip == "one", f"{name}: the clipboard is to have {editor.clip!r}")
-    pair, editor, key, _ = in_a_small_window(True)
-    for name in ("^C", "^X"):
+    for name, left in (("^C", LONG), ("^X", "")):
+        pair, editor, key, _ = in_a_small_window()
         pair.press(key("^A"), key(name))
-        expect(editor.clip is None, f"{name}: the clipboard is to have a text with gaps")
-        expect("not all loaded" in editor.message, f"{name}: it tells {editor.message!r}")
+        expect(editor.clip == LONG, f"{name}: the clipboard is to have {editor.clip and len(editor.clip)} characters")
         expect(pair.terminal.snarf_len == len(LONG), f"{name}: {pair.terminal.snarf_len} characters are copied")
-    expect(pair.host.text(1) == "", "^X leaves something")
+        expect(pair.host.text(1) == left, f"{name} leaves {len(pair.host.text(1))} characters")
+    pair, editor, key, _ = in_a_small_window()
+    pair.take_line(Line()).is_broken = True
+    pair.press(key("^A"), key("^C"))
+    expect(editor.clip is None and "not all loaded" in editor.message, f"without a line it tells {editor.message!r}")
 
 
 def check_no_room_to_paste(folder):

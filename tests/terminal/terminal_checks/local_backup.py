@@ -110,26 +110,17 @@ def check_cut_text(folder):
         ended(pair, None, told, 0 if is_clean else 255).expect([] if is_clean else [("cut", "a")], f"the host ends well: {is_clean}")
 
 
-def check_undo_while_the_host_is_lost(folder):
-    """A step is taken back by a text that the host keeps. What stands there goes at once, and is written here if the host is lost then."""
-    pair, editor, key, text = in_a_small_window(True)
-    pair.press(text("typed "), key("Esc"), text("81,2500d\n"), key("Esc"))
-    length = pair.terminal.len(1)
-    editor.take(key("^Z"))
-    for _ in range(20):
-        if pair.terminal.len(1) < length:
-            break
-        pair.trip()
-    expect(pair.terminal.len(1) < length and editor.vault.is_busy, "this test is wrong: nothing goes")
+def check_what_waits_while_the_host_is_lost(folder):
+    """What was typed while the file was locked is written here, too, if the host is lost then; it stands where it was shown."""
+    pair, editor, key, text = opened("one\ntwo\n")
+    pair.press(text("typed "))
+    for each in (key("^W"), text("more "), key("Down"), text("x")):
+        editor.take(each)
+    pair.settle()
+    expect(pair.terminal.unsent > 0 and not editor.deferred, "this test is wrong: nothing waits")
     with Kept() as kept:
         editor.lose("the host is gone")
-    got = dict(kept.texts)["file0"]
-    expect(got.startswith("typed line 0 foo\nline 1 foo\n"), f"it keeps {got[:60]!r}")
-    pair, editor, key, text = in_a_small_window(True)
-    pair.press(text("typed "), key("Esc"), text("81,2500d\n"), key("Esc"), key("^Z"))
-    with Kept() as kept:
-        editor.lose("the host is gone")
-    expect(dict(kept.texts)["file0"].count("typed line 0 foo\n") == 1, "what went stands there after the host's answer, too")
+    expect(dict(kept.texts)["file0"] == editor.active.read(0, 100) == "typed more one\ntwox\n", f"it keeps {kept.texts}")
 
 
 def check_signal_before_a_key_arrives(folder):
@@ -288,14 +279,15 @@ class Ending:
     def has_all(self):
         return not self.waiting
 
-    def send(self, data=b""):
-        self.waiting += data
+    def send(self):
+        self.waiting += self.pair.ends.sent()
 
-    def close(self, hear, take=lambda data: None, seconds=10):
+    def close(self, hear, go_on=lambda: None, seconds=10):
         count = len(self.waiting) if self.taken is None else self.taken
         self.pair.host.feed(bytes(self.waiting[:count]))
         del self.waiting[:count]
-        take(bytes(self.pair.down) + self.pair.host.take_out())
+        self.pair.ends.bring(bytes(self.pair.down) + self.pair.host.take_out())
+        go_on()
         for line in self.lines:
             hear(line)
         return self.status
@@ -339,7 +331,7 @@ def check_interrupts_at_the_end(folder):
     from terminal.files import local_backup
 
     class Hanging(Ending):
-        def close(self, hear, take=lambda data: None, seconds=10):
+        def close(self, hear, go_on=lambda: None, seconds=10):
             os.kill(os.getpid(), signal.SIGINT)
             expect(False, "the first doesn't end the waiting")
 
@@ -381,16 +373,16 @@ def check_fault_in_one_text(folder):
         pair.press(text("x"))
     pair.press(key("^K"), key("^K"))
     editor.go_to(editor.files[1])
-    editor.take(key("^W"))
+    pair.terminal.look(2)
     editor.take(text("waits"))
-    read = pair.terminal.read
+    read = pair.terminal.runes
 
     def broken(tag, *words):
         if tag == 2:
             raise MemoryError("no room")
         return read(tag, *words)
 
-    pair.terminal.read = broken
+    pair.terminal.runes = broken
     with Kept() as kept:
         editor.lose("the host is gone")
     kept.expect([("file0", "xa\n"), ("file2", "xc\n"), ("file3", "xd\n"), ("typed", "waits")], "a fault in file1")
@@ -460,47 +452,30 @@ def check_no_stray_text(folder):
 # ---- What is told of changes
 
 
-def without_memory(pair, taken):
-    """Has the terminal's memory run out after so many typed pieces."""
+def check_change_without_memory(folder):
+    """Out of memory nothing of what is typed or pasted comes in, and nothing is told of it. It is written here at the end."""
     from sulgrevad import NoMemory, Status
 
-    kind = pair.terminal.type_text
+    def short(*words):
+        raise NoMemory(Status.NO_MEMORY)
 
-    def short(tag, text):
-        if taken:
-            kind(tag, text[: 512 * taken])
-        error = NoMemory(Status.NO_MEMORY)
-        error.taken = len(text[: 512 * taken].encode())
-        raise error
-
-    pair.terminal.type_text = short
-
-
-def check_change_without_memory(folder):
-    """Out of memory what is told of a change, and taken back by `^Z`, is what was made of it: nothing, or the front of a long text. The
-    rest is written here at the end."""
-    pieces = ("x" * 512, "y" * 512, "z")
-    for gone, count, taken in (("a", 1, 0), ("a" * 512, 3, 1), ("a" * 1024, 3, 2), ("a" * 512, 2, 0), ("a" * 600, 3, 1), ("", 3, 2)):
+    for gone, typed in (("a", "x"), ("a" * 512, "x" * 512 + "y" * 512 + "z"), ("", "xy")):
         pair, editor, key, _ = opened(gone + "end\n")
         pair.terminal.select(1, 0, len(gone))
         pair.finish()
         told = []
         editor.texts.listeners.append(told.extend)
-        without_memory(pair, taken)
-        editor.take(pair.keys.Paste("".join(pieces[:count]) if count > 1 else "x"))
-        del pair.terminal.type_text
+        pair.ends.client.replace = short
+        editor.take(pair.keys.Paste(typed))
+        del pair.ends.client.replace
         expect("not enough memory" in editor.message, f"this test is wrong: {editor.message!r}")
-        came = "".join(pieces[:taken])
-        wanted = [(1, 0, gone, came)] if taken else []
-        expect([tuple(change) for change in told] == wanted, f"{len(gone)} go, {taken} of {count} pieces come: it tells {told}")
+        expect(not told, f"{len(gone)} runes go, it tells {told}")
         pair.finish()
-        expect(pair.host.text(1) == (came if taken else gone) + "end\n", f"the text is {pair.host.text(1)!r}")
+        expect(pair.host.text(1) == gone + "end\n", f"the text is {pair.host.text(1)!r}")
         pair.press(key("^Z"))
-        expect(pair.host.text(1) == gone + "end\n", f"^Z leaves {pair.host.text(1)!r}")
-        expect(("nothing more" in editor.message) == (taken == 0), f"{taken} pieces: ^Z tells {editor.message!r}")
-        rest = "".join(pieces[taken:count]) if count > 1 else "x"
+        expect("nothing more" in editor.message, f"^Z tells {editor.message!r}")
         pair.press(pair.keys.Text("more"))
-        ended(pair, None, (aside(1),), 0).expect([("typed", rest)], f"{taken} of {count} pieces came")
+        ended(pair, None, (aside(1),), 0).expect([("typed", typed)], f"{len(gone)} runes were to go")
 
 
 # ---- Numbers, keys and control characters

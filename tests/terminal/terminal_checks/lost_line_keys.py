@@ -11,12 +11,13 @@ KNOWN_LATE, TOLD = 4, 0.6  # seconds after which the user is told of keys that c
 
 def check_keys_on_a_lost_line(folder):
     """While the line is lost all that needs no answer acts at once, what can't act says so, and nothing locks a file."""
-    pair, editor, key, text, line = with_line("one two\nthree\n", has_vault=True)
+    pair, editor, key, text, line = with_line("one two\nthree\n")
     line.is_broken = True
     pair.wait(0.5)
     keys = (text("x"), key("^Right"), key("^W"), key("Shift-Home"), key("^X"), key("^End"), key("^V"), text("!"), key("^Z"), key("^R"))
     for each in keys:
         editor.take(each)
+        editor.go_on()
         expect(not editor.deferred and not pair.terminal.locked(1), f"{each} waits, or locks the file")
     model = Model("one two\nthree\n", 200)
     for act in (lambda: model.type("x"), lambda: model.word_right(False), lambda: model.home(True), model.cut, model.last, model.paste):
@@ -39,7 +40,7 @@ def check_keys_on_a_lost_line(folder):
     pair.wait(TOLD)
     for each in (key("Esc"), text("?")):
         editor.take(each)
-    expect(pair.terminal.read(0, 0, 10) == list("1d"), "the command line is not there, or has run")
+    expect(list(pair.terminal.runes(0, 0, 10)) == list("1d"), "the command line is not there, or has run")
     model.last()
     model.type("?")
     line.is_broken = False
@@ -65,7 +66,7 @@ def check_keys_of_a_short_break(folder):
             pair.wait(seconds)
             line.is_broken = False
             pair.finish()
-            texts.append({tag: (pair.host.name(tag), pair.host.text(tag)) for tag in pair.terminal.files()})
+            texts.append({tag: (pair.host.name(tag), pair.host.text(tag)) for tag in pair.files()})
         expect(texts[0] == texts[1], f"{keys}: over a break of {seconds} s {texts[1]}, else {texts[0]}")
 
 
@@ -96,7 +97,7 @@ def check_fast_keys_on_a_lost_line(folder):
     for before, keys in FAST:
         texts = []
         for is_broken in (False, True):
-            pair, editor, *_ = in_a_small_window(True)
+            pair, editor, *_ = in_a_small_window()
             line = pair.take_line(Line())
             pair.press(*(pressed(pair, name) for name in before), seconds=0.1)
             expect(pair.terminal.first_gap(1) is not None, "this test is wrong: all is loaded")
@@ -109,7 +110,7 @@ def check_fast_keys_on_a_lost_line(folder):
             pair.wait(9)
             line.is_broken = False
             pair.finish(9)
-            texts.append([pair.host.text(tag) for tag in pair.terminal.files()])
+            texts.append([pair.host.text(tag) for tag in pair.files()])
         at = next((at for at, pair in enumerate(zip(*texts)) if pair[0] != pair[1]), None)
         expect(texts[0] == texts[1], f"{before}, {keys}: file {at} differs: {editor.message!r}, {editor.deferred}")
 
@@ -120,7 +121,7 @@ def check_keys_once_a_refusal_is_read(folder):
         ("^End", "Up", "Up can't act until the line is back"), ("^End", "^B", "not in what is loaded above"),
         ("^End", "^D", "^D can't act until the line is back"), ("^Home", "^F", "not in what is loaded below"),
     ):  # fmt: skip
-        pair, editor, key, text = in_a_small_window(True)
+        pair, editor, key, text = in_a_small_window()
         line = pair.take_line(Line())
         pair.press(key("^S"), text("line 1"), text("\n"), seconds=0.1)
         editor.sought_here = "line 2345"
@@ -135,7 +136,7 @@ def check_keys_once_a_refusal_is_read(folder):
         pair.wait(TOLD)
         expect(not editor.deferred and editor.focus.dot == places, f"{name} waits: {editor.deferred}, {editor.focus.dot}")
         editor.take(text("x"))
-        expect(pair.terminal.read(1, places[0], 1) == ["x"], f"behind {name} what is typed doesn't stand at the caret")
+        expect(list(pair.terminal.runes(1, places[0], 1)) == ["x"], f"behind {name} what is typed doesn't stand at the caret")
 
 
 def check_menu_entry_on_a_lost_line(folder):
@@ -196,7 +197,8 @@ def check_old_texts_on_a_lost_line(folder):
     for each in (text("\n"), text("x")):
         editor.take(each)
     pair.wait(KNOWN_LATE)
-    expect(editor.typed_ahead == "\nx" and pair.terminal.text(1) == "one\n", f"what waits is {editor.typed_ahead!r}")
+    is_as_before = pair.terminal.runes(1, 0, pair.terminal.len(1)) == "one\n"
+    expect(editor.typed_ahead == "\nx" and is_as_before, f"what waits is {editor.typed_ahead!r}")
 
 
 def check_enter_of_a_menu_on_a_lost_line(folder):

@@ -63,7 +63,7 @@ def check_cut_survives(folder):
 
 
 def check_cut_and_a_killed_host(folder):
-    """Where the host was killed there is what is loaded of a cut, and that not all is there is told."""
+    """Where the host was killed all of a cut is here: what wasn't loaded was loaded before it went."""
     (path,) = made(folder, a="".join(LINES))
     with Session(folder, "a.txt", slow=20) as session:
         os.kill(cut_a_stretch(session, path)[2], signal.SIGKILL)
@@ -71,8 +71,7 @@ def check_cut_and_a_killed_host(folder):
         session.keys("C-q")
         session.wait_for_end(3)
     told, kept = (folder / "stderr").read_text(), (folder / "cut.sam-here").read_text()
-    expect(kept.startswith(LINES[99]) and "characters that were not loaded]" in kept, f"it keeps {kept[-200:]!r}")
-    expect("characters were not loaded" in told and "unless it was killed" in told, f"it tells {told!r}")
+    expect(kept == CUT and "cut.sam-here" in told, f"it keeps {kept[-200:]!r}, and tells {told!r}")
 
 
 def check_cut_and_leaving(folder):
@@ -207,7 +206,7 @@ def check_lost_host_serves(folder):
 
 def check_lost_host_follows(folder):
     """The window follows the caret then, as far as text is loaded."""
-    pair, editor, key, text = in_a_small_window(False)
+    pair, editor, key, text = in_a_small_window()
     with Kept():
         editor.lose("the host is gone")
     for _ in range(30):

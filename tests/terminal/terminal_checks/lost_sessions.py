@@ -7,7 +7,6 @@ import time
 from unittest import mock
 
 from .hostile import hostile
-from .messages import said, write_note
 from .support import STATE, Session, below, expect, host_that, made, wait_until
 
 IDENTITY = bytes(range(16))  # of a session
@@ -112,6 +111,7 @@ def check_when_a_missing_session_is_final(folder):
 def check_times_of_a_line(folder):
     """A connection that no host welcomes is given up after 30 seconds, but not while the user waits for it; and so is a silent line where
     an answer is due or waited for, but not where none is."""
+    from sulgrevad import EventKind
     from terminal.line import persistent_session as line
 
     now = [100.0]
@@ -124,6 +124,7 @@ def check_times_of_a_line(folder):
         for _ in range(10 * seconds):
             now[0] += 0.1
             session.go_on()
+            list(session.client.go_on(session._now))
             session.send()
         return session.relay is first
 
@@ -139,40 +140,10 @@ def check_times_of_a_line(folder):
     session.expect(False)
     session.connect()
     said_on(session, 4)
-    session.send(b"x")
+    session.client.ask(EventKind.GET_SNARF)
+    list(session.client.go_on(session._now))
+    session.send()
     expect(not session.has_all and goes_on(29) and session.silence > 28 and not goes_on(2), "a silent line isn't given up after 30 seconds")
-    session.close(print, seconds=0)
-
-
-def check_notes_keep_their_place(folder):
-    """A note goes after bytes that found no memory before it, also where the memory is there again in between."""
-    from terminal.line import persistent_session as line
-
-    session = line.PersistentSession(["sleep", "100"], lambda name: [])
-    machine, taken, refuses = session._line, [], []
-
-    class Short:
-        def put(self, data, now):
-            self.take(data)
-
-        def put_note(self, data, now):
-            self.take(b"note " + data)
-
-        def take(self, data):
-            if refuses:
-                refuses.pop()
-                raise MemoryError
-            taken.append(data)
-
-    session._line = Short()
-    refuses += [1] * 3
-    session._put(b"edit 1")
-    session.put_note(said("a word"))
-    session._put(b"edit 2")
-    expect(not taken and not session.has_all, f"this test is wrong: {taken}")
-    session._put(b"")
-    expect(taken == [b"edit 1", b"note " + write_note(said("a word")), b"edit 2"], f"the order is {taken}")
-    session._line = machine
     session.close(print, seconds=0)
 
 
@@ -194,8 +165,7 @@ def check_session_that_cannot_begin(folder):
             expect("doesn't answer" not in told, f"{words[:1]}: it tells {told[-300:]!r}")
     ended = PersistentSession(["sh", "-c", "echo why >&2; exit 3"], lambda name: [])
     lines = []
-    ended.send(b"what is sent first")
-    expect(not ended.wait_for_stream(lines.append) and ended.early_status == 3, f"this test is wrong: {ended.early_status}")
+    expect(not ended.wait_for_stream(lines.append, lambda: False) and ended.early_status == 3, f"this test is wrong: {ended.early_status}")
     start = time.monotonic()
     ended.close(lines.append)
     expect(time.monotonic() - start < 5 and lines == ["why"], f"it takes {time.monotonic() - start:.1f} s, and tells {lines}")

@@ -2,8 +2,35 @@
 import random
 from types import SimpleNamespace
 
-from .messages import hidden, saved
+from .messages import saved
 from .support import Failed, expect
+
+
+class Ends:
+    """A client, and the host's end of its link: between the two all goes at once. What the terminal says comes out of `sent`, and what its
+    host says goes in by `bring`."""
+
+    def __init__(self):
+        import sulgrevad
+
+        self.client, self.link = sulgrevad.Client(bytes(16), False, 0), sulgrevad.Link(sulgrevad.Link.HOST, bytes(16))
+        self.attempt = self.client.connected(0)
+        self.link.answer(self.client.take_out(self.attempt, sulgrevad.HELLO_BYTES))
+        self._carry()
+
+    def _carry(self):
+        while data := self.link.take_out(self.attempt):
+            self.client.receive(self.attempt, data, 0)
+
+    def bring(self, data):
+        self.link.put(data)
+        self._carry()
+
+    def sent(self):
+        while data := self.client.take_out(self.attempt):
+            self.link.feed(self.attempt, data)
+        self._carry()
+        return b"".join(iter(self.link.take_in, b""))
 
 
 class Line:
@@ -32,7 +59,7 @@ class Wire(Line):
 
     @property
     def has_all(self):
-        return not self.pair.up
+        return not self.pair.up and self.pair.ends.client.has_all
 
     @property
     def silence(self):
@@ -49,28 +76,27 @@ class Pair:
     LINES = (",x/a/c/bb/", ",d", "2", "/b/", "#3,$", "f name", "nonsense")
     SIZES = ((22, 80), (8, 20), (5, 7), (60, 200))
 
-    def __init__(self, random_numbers, texts, has_vault=False, names=None, key_set="sam"):
+    def __init__(self, random_numbers, texts, names=None, key_set="sam"):
         import sulgrevad
         from terminal.editor import Editor
         from terminal.keys import bindings
-        from terminal.text.cached_terminal import CachedTerminal
+        from terminal.text.client_terminal import ClientTerminal
         from terminal.text.texts import GAP
         from terminal.view import screen
 
         self.random, self.keys, self.screen, self.gap = random_numbers, bindings, screen, GAP
         self.failing, self.written = [], []  # what the host tells of the next writes that fail; and the files that it was told to write
-        self.host, self.terminal, self.now = sulgrevad.Host(), CachedTerminal(), 0.0
+        self.host, self.ends, self.now = sulgrevad.Host(), Ends(), 0.0
+        self.terminal = ClientTerminal(self.ends.client, clock=lambda: self.now)
         self.up, self.down, self.heard_at = bytearray(), bytearray(), 0.0
         names = names or [f"file{at}" for at in range(len(texts))]
         for name, text in zip(names, texts):
             self.host.add_file(name, text)
         self.editor = Editor(self.terminal, Wire(self), clock=lambda: self.now, asked_for=names, keys=bindings.KEY_SETS[key_set])
         self.prefetch, self.editor.slices = self.editor.slices, SimpleNamespace(left=None, go_on=lambda: None)  # nothing loads at rest
-        if has_vault:
-            self.editor.hear(hidden(self.host.add_file("~~undo~~")))
         self.editor.begin()
         self.editor.arrange(*self.random.choice(self.SIZES))
-        self.up += self.terminal.take_out()
+        self.send()
         self.names = [key for binding in self.editor.keys.bindings for key in binding.keys if key != "^Q"]
         self.names += [f"Shift-{name}" for name in ("Left", "Right", "Up", "Down", "Home", "End")]
 
@@ -104,7 +130,21 @@ class Pair:
             self.serve(data)
         else:
             self.heard_at = self.now
-            self.editor.feed(data)
+            self.feed(data)
+
+    def files(self):
+        """The files that the terminal knows."""
+        return [tag for tag in range(self.terminal.state().tags) if self.terminal.is_known(tag)]
+
+    def feed(self, data):
+        """The terminal takes bytes of the host."""
+        self.ends.bring(data)
+        self.editor.go_on()
+
+    def send(self):
+        """What the user did goes on its way."""
+        self.editor.go_on()
+        self.up += self.ends.sent()
 
     def serve(self, data):
         """The host takes bytes, and tells what became of the writes among them, as samhost does: before its answers, and by marks of files
@@ -121,7 +161,7 @@ class Pair:
 
     def settle(self):
         self.editor.update()
-        self.up += self.terminal.take_out()
+        self.send()
         for window in self.editor.windows:
             self.screen.window_rows(self.editor, window)
         self.screen.cursor_of(self.editor)
@@ -130,7 +170,7 @@ class Pair:
         self.editor.notes.settle(self.now)
         self.settle()
         self.editor.pause()
-        self.up += self.terminal.take_out()
+        self.send()
         self.editor.notes.drawn()
 
     def finish(self, seconds=1.0):
@@ -170,7 +210,7 @@ class Pair:
         self.up.clear()
         self.serve(data)
         self.heard_at = self.now
-        self.editor.feed(bytes(self.down))
+        self.feed(bytes(self.down))
         self.down.clear()
         self.pause()
 
@@ -206,9 +246,9 @@ def some_keys(numbers, keys):
     )
 
 
-def opened(*texts, has_vault=False, size=(60, 200), key_set="sam"):
+def opened(*texts, size=(60, 200), key_set="sam"):
     """A pair with a window for each text, and a screen of so many rows and columns."""
-    pair = Pair(random.Random(1), texts, has_vault, key_set=key_set)
+    pair = Pair(random.Random(1), texts, key_set=key_set)
     pair.editor.arrange(*size)
     pair.finish(3)  # seconds of rest, in which the command file is opened
     for _ in texts[1:]:
@@ -227,9 +267,9 @@ def with_line(*texts, **more):
 LONG = "".join(f"line {at} foo\n" for at in range(3000))
 
 
-def in_a_small_window(has_vault):
+def in_a_small_window():
     """A pair with a long text, of which little is loaded."""
-    return opened(LONG, has_vault=has_vault, size=(20, 80))
+    return opened(LONG, size=(20, 80))
 
 
 def loads_of(pair):

@@ -59,17 +59,15 @@ def screen_on(pair, paper):
 
 @contextlib.contextmanager
 def nothing_kept(pair):
-    """Meanwhile nothing is kept of what was read, laid out or drawn."""
-    from sulgrevad import Terminal
-
+    """Meanwhile nothing is kept of what was read, laid out or drawn: texts are those of the client."""
     editor, terminal = pair.editor, pair.terminal
     windows = [*editor.all_windows.values()]
     kept = [(window, window._layout, window._layout_of, window._heard, window._change, window.drawn) for window in windows]
     known, editor.numbers._known = editor.numbers._known, {}
     counts, editor.numbers._counts = editor.numbers._counts, {}
-    terminal.runes = lambda *words: Terminal.runes(terminal, *words)
+    terminal.runes = lambda tag, place, count: pair.ends.client.runes(tag, place, count, pair.gap)
     for window in windows:
-        window._layout, window._layout_of, window.drawn, window._shown_ahead = None, (), None, ((), None)
+        window._layout, window._layout_of, window.drawn = None, (), None
     for file in editor.colours._files.values():
         file._found = None
     try:
@@ -96,14 +94,14 @@ def a_key(pair, numbers):
         pair.host.feed(bytes(pair.up))
         pair.up.clear()
         pair.down += pair.host.take_out()
-        pair.editor.feed(bytes(pair.down))
+        pair.feed(bytes(pair.down))
         pair.down.clear()
         if pair.editor.menu is not None and numbers.random() < 0.5:
             pair.editor.take(pair.keys.Key("Esc"))
     pair.editor.update()
     if numbers.random() < 0.3:
         pair.editor.pause()
-    pair.up += pair.terminal.take_out()
+    pair.send()
     pair.editor.wishes.clear()
 
 

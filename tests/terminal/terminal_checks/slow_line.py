@@ -117,7 +117,7 @@ def check_key_after_jump(folder):
     for typed in (key("^End"), text("typed")):
         editor.take(typed)
     pair.pause()
-    expect(pair.terminal.read(1, len(lines), 5) == list("typed"), "a typed key waits")
+    expect(list(pair.terminal.runes(1, len(lines), 5)) == list("typed"), "a typed key waits")
     expect(pair.screen.cursor_of(editor) is not None, "the caret is not on the screen")
     for typed in (text("\n"), text("end"), key("Up"), text("!"), key("Home"), text("?")):
         editor.take(typed)
@@ -139,7 +139,7 @@ def check_key_after_command(folder):
     for typed in (key("Esc"), text("#50000\n"), key("Esc"), text("typed")):
         editor.take(typed)
     pair.trip()
-    expect(pair.terminal.read(1, 50_000, 5) == list("typed"), "it waits for more than one answer")
+    expect(list(pair.terminal.runes(1, 50_000, 5)) == list("typed"), "it waits for more than one answer")
     pair.finish()
     pair.check()
 
@@ -194,12 +194,12 @@ def rescue_of(pair, tag, most):
     """What is written of a text when the host is lost, for which no more than so many runes are read."""
     from terminal.files import local_backup
 
-    counts, read = [], pair.terminal.read
-    pair.terminal.read = lambda *words: counts.append(len(found := read(*words))) or found
+    counts, read = [], pair.terminal.runes
+    pair.terminal.runes = lambda *words: counts.append(len(found := read(*words))) or found
     try:
         kept = local_backup.loaded(pair.terminal, tag)
     finally:
-        del pair.terminal.read
+        del pair.terminal.runes
     expect(sum(counts) <= most, f"it reads {sum(counts)} runes")
     return kept
 
@@ -208,14 +208,14 @@ def check_many_gaps(folder):
     """After a command line over the whole text, and its undo, the text is loaded in many small pieces with gaps between them. A jump there
     takes no more than a few round trips, and the file is free then."""
     lines = "".join(f"line {at} the quick fox and the lazy dog, the cat and the cow\n" for at in range(1000))
-    pair, editor, key, text = opened(lines, size=(40, 80), has_vault=True)
+    pair, editor, key, text = opened(lines, size=(40, 80))
     pair.press(key("Esc"), text(",x/the/c/THE/\n"), key("Esc"), key("^Z"))
     expect(pair.host.text(1) == lines, "this test is wrong: the undo is not done")
     for typed in (key("Esc"), text("500\n"), key("Esc")):
         editor.take(typed)
     trips, window = 0, editor.files[0]
-    runes = pair.terminal.read(1, 0, len(lines))
-    missing, kept = runes.count(None), rescue_of(pair, 1, 2 * len(lines))
+    runes = pair.terminal.runes(1, 0, len(lines))
+    missing, kept = runes.count(pair.gap), rescue_of(pair, 1, 2 * len(lines))
     told = re.findall(r"\[(\d+) characters that were not loaded\]", kept)
     expect(len(told) > 1000 and sum(map(int, told)) == missing, f"of {missing} runes that are not loaded it tells {sum(map(int, told))}")
     while trips == 0 or pair.terminal.locked(1) or any(row.has_gap for row in window.layout().rows):
@@ -237,7 +237,7 @@ def check_keys_before_loading(folder):
     for at, rune in enumerate("abcdefgh"):
         editor.take(text(rune))
         pair.pause()
-        expect(pair.terminal.read(1, 0, at + 1) == list("abcdefgh"[: at + 1]), f"the key {rune} waits")
+        expect(list(pair.terminal.runes(1, 0, at + 1)) == list("abcdefgh"[: at + 1]), f"the key {rune} waits")
         pair.now += 0.1
     expect(any(row.has_gap for row in editor.focus.layout().rows), "this test is wrong: all is loaded")
     expect(not loads, f"while keys come it asks by {loads}")
@@ -373,7 +373,7 @@ def check_cost_of_a_key_in_the_editor(folder):
         editor.take(text("x"))
         editor.update()
         editor.pause()
-        sent = pair.terminal.take_out()
+        sent = pair.ends.sent()
         screen.draw(editor, link)
         return sent
 
@@ -407,7 +407,7 @@ def check_cost_of_many_edits(folder):
         editor.take(typed)
     answer = b""
     for _ in range(9):
-        editor.feed(answer)
+        pair.feed(answer)
         pair.pause()
         pair.host.feed(bytes(pair.up))
         pair.up.clear()
@@ -416,7 +416,7 @@ def check_cost_of_many_edits(folder):
             break
     before = time.process_time()
     for at in range(0, len(answer), PIECE):
-        editor.feed(answer[at : at + PIECE])
+        pair.feed(answer[at : at + PIECE])
         editor.update()
     cost = time.process_time() - before
     pair.finish()
@@ -433,19 +433,21 @@ def check_cost_of_undo(folder):
     first = "abcdefghijklmno\n" * 9_000
     pair, editor, key, text = opened(first, size=(40, 80))
     pair.press(key("Esc"), text(",x/a/c/b/\n"), key("Esc"))
-    costs, calls, answer = [], [], pair.terminal._answer
+    costs, calls, client = [], [], pair.ends.client
+    answer = client._answer
 
     def counted(name, *arguments):
         calls.append(name)
         return answer(name, *arguments)
 
     for name, wanted in (("^Z", first), ("^R", first.replace("a", "b"))) * 2:
-        sent, before, pair.terminal._answer = pair.terminal.sent, time.process_time(), counted
+        sent, before, client._answer = client.state().sent, time.process_time(), counted
         editor.take(key(name))
         editor.update()
+        editor.go_on()
         costs.append(time.process_time() - before)
-        pair.terminal._answer = answer
-        sent = pair.terminal.sent - sent
+        client._answer = answer
+        sent = client.state().sent - sent
         pair.finish()
         expect(pair.host.text(1) == wanted, f"{name}: the text is {pair.host.text(1)[:60]!r}; it tells {editor.message!r}")
         expect(sent < 18_100, f"{name}: {sent} messages are made")

@@ -2,7 +2,7 @@
 import random
 import time
 
-from .pairs import LONG, Pair, in_a_small_window, opened
+from .pairs import LONG, Line, Pair, in_a_small_window, opened
 from .support import Session, expect, made, wait_for_text
 
 
@@ -72,72 +72,61 @@ def check_undo_in_the_command_window(folder):
     expect(pair.host.text(1) == "one two\n", "the command line is not taken back")
 
 
-def check_undo_without_vault(folder):
-    """Text that is not loaded, and a host that keeps none: what is the pattern of a command line can be brought back; what can't be is
-    told before."""
-    pair, editor, key, text = in_a_small_window(False)
+def check_undo_of_a_pattern(folder):
+    """What is the pattern of a command line can be brought back, though it is not loaded."""
+    pair, editor, key, text = in_a_small_window()
     pair.press(key("Esc"), text(",x/foo/c/barbar/\n"), key("Esc"))
     expect(pair.host.text(1) == LONG.replace("foo", "barbar"), "the line is not run")
     pair.press(key("^Z"))
     expect(pair.host.text(1) == LONG, f"the pattern is not brought back: {editor.message}")
     expect(pair.terminal.first_gap(1) is not None, "this test is wrong")
-    pair.press(key("Esc"), text("2000,2500d\n"))
-    expect(pair.host.text(1) == LONG and "can't bring it back" in editor.message, f"it isn't told: {editor.message}")
-    pair.press(key("Esc"), key("^A"), text("x"))
-    expect(pair.host.text(1) == LONG and "not loaded" in editor.message, f"it isn't told: {editor.message}")
-    pair.press(key("^A"), key("^X"))
-    expect(pair.host.text(1) == LONG and "not loaded" in editor.message, f"it isn't told: {editor.message}")
-    pair.press(key("^X"))
-    expect(pair.host.text(1) == "", f"an answer is not taken: {editor.message}")
-    pair.press(key("^Z"))
-    expect("can't be taken back" in editor.message, f"it takes back what is not known: {editor.message}")
-    pair.press(key("^V"))
-    expect(pair.host.text(1) == LONG, "this test is wrong")
-    pair.press(key("^Z"))
-    expect("^R can't" in editor.message, f"it isn't told that ^R can't bring it again: {editor.message}")
-    pair.press(key("^Z"))
-    expect(pair.host.text(1) == "", "an answer is not taken")
+
+
+def check_undo_without_a_line(folder):
+    """Where text that is not loaded can't be, since the line is lost, it is told before that goes."""
+    pair, editor, key, text = in_a_small_window()
+    line = pair.take_line(Line())
+    line.is_broken = True
+    for last, wanted in ((text("x"), "x"), (key("^X"), ""), (key("Backspace"), "")):
+        pair.press(key("^A"), last)
+        shown = editor.active.read(0, editor.active.length)
+        expect(len(shown) == len(LONG) and "can't bring them back" in editor.message, f"{last}: it isn't told: {editor.message}")
+        pair.press(last)
+        expect(editor.active.read(0, editor.active.length) == wanted, f"{last}: an answer is not taken: {editor.message}")
+        pair.press(key("^Z"))
+        expect("can't be taken back" in editor.message, f"{last}: it takes back what is not known: {editor.message}")
+        pair, editor, key, text = in_a_small_window()
+        pair.take_line(line)
 
 
 def check_undo_not_loaded(folder):
-    """What goes and is not loaded the host keeps: it is taken back and made again, and what was copied stays so."""
-    pair, editor, key, text = in_a_small_window(True)
-    pair.press(key("Shift-End"), key("^C"), key("Home"))
+    """What goes and is not loaded is loaded before: it is taken back and made again, and what was copied stays so."""
     lines = LONG.splitlines(True)
-    changes = (
-        ((key("^A"), key("^X")), ""),
-        ((key("^A"), text("x")), "x"),
-        ((key("^A"), key("Delete")), ""),
-        ((key("^A"), key("^V")), "line 0 foo"),
-        ((key("Esc"), text("81,2500d\n"), key("Esc")), "".join(lines[:80] + lines[2500:])),
-        ((key("Esc"), text(",y/e 1/c/long text/\n"), key("Esc")), "e 1".join(["long text"] * len(LONG.split("e 1")))),
-        ((key("Esc"), text(",d\n"), key("Esc")), ""),
-    )
-    for keys, wanted in changes:
-        pair.press(*keys)
-        expect(pair.host.text(1) == wanted, f"{keys}: the text is {pair.host.text(1)[:60]!r}; it tells {editor.message!r}")
+    for names, wanted in (
+        (("^A", "^X"), ""), (("^A", "x"), "x"), (("^A", "Delete"), ""), (("^A", "^V"), "line 0 foo"),
+        (("Esc", "81,2500d\n", "Esc"), "".join(lines[:80] + lines[2500:])),
+        (("Esc", ",y/e 1/c/long text/\n", "Esc"), "e 1".join(["long text"] * len(LONG.split("e 1")))), (("Esc", ",d\n", "Esc"), ""),
+    ):  # fmt: skip
+        pair, editor, key, text = in_a_small_window()
+        pair.press(key("Shift-End"), key("^C"), key("Home"))
+        expect(pair.terminal.first_gap(1) is not None, "this test is wrong: all is loaded")
+        pair.press(*(text(name) if name == "x" or "\n" in name else key(name) for name in names))
+        expect(pair.host.text(1) == wanted, f"{names}: the text is {pair.host.text(1)[:60]!r}; it tells {editor.message!r}")
         for name, then in (("^Z", LONG), ("^R", wanted), ("^Z", LONG), ("^R", wanted), ("^Z", LONG)):
             pair.press(key(name))
             got = pair.host.text(1)
-            expect(got == then, f"{keys}, {name}: the text is {got[:60]!r}; it tells {editor.message!r}")
-            expect(pair.screen.cursor_of(editor) is not None, f"{keys}, {name}: the caret is not on the screen")
-        if key("^X") not in keys:
-            expect(pair.host.name(2) == "~~undo~~" and pair.terminal.snarf_len == 10, "what was copied has changed")
-        pair.press(key("^Home"), key("Shift-End"), key("^C"), key("Home"))
-    expect(pair.terminal.first_gap(1) is not None, "this test is wrong: all is loaded")
-    pair.press(key("^W"))
-    expect(2 not in editor.tags and editor.may_leave("^Q"), "the file for undo is one of the user's")
-    pair.press(key("Esc"), text("5000d\n"), key("Esc"), key("^V"))
-    expect(pair.host.text(1) == "line 0 foo" + LONG, "a line that changes nothing does")
-    pair.check()
+            expect(got == then, f"{names}, {name}: the text is {got[:60]!r}; it tells {editor.message!r}")
+            expect(pair.screen.cursor_of(editor) is not None, f"{names}, {name}: the caret is not on the screen")
+        expect(pair.terminal.snarf_len == (len(LONG) if "^X" in names else 10), "what was copied has changed")
+        pair.check()
 
 
 def check_undo_of_all_kinds(folder):
-    """Random changes in small windows over long texts, undone to the start and redone to the end, with a host that keeps what goes."""
+    """Random changes in small windows over long texts, undone to the start and redone to the end."""
     for seed in range(6):
         numbers = random.Random(seed)
         first = "".join(numbers.choice("ab c\n日") for _ in range(4000))
-        pair = Pair(numbers, [first], has_vault=True)
+        pair = Pair(numbers, [first])
         editor, key, typed = pair.editor, pair.keys.Key, pair.keys.Text
         editor.arrange(12, 20)
         pair.finish()
@@ -175,7 +164,7 @@ class Noted:
     def __init__(self, seed):
         self.random = random.Random(seed)
         text = "".join(self.random.choice("ab c\n日") for _ in range(self.random.choice((300, 4000))))
-        self.pair, self.editor, self.key, self.text = opened(text, has_vault=True, size=(12, 20))
+        self.pair, self.editor, self.key, self.text = opened(text, size=(12, 20))
         self.texts = {0: text}
         self.pair.random = self.random
 
@@ -227,32 +216,21 @@ def check_runs(folder):
 
 
 def check_received_changes(folder):
-    """Changes that came in a few calls are those that came one by one: the same changes, and they move each place as these do. The caret
-    goes to the end of the one that stands farthest down then."""
-    from sulgrevad import Edits, Pieces
-    from terminal.text.texts import Change, received
-
-    def pieces(texts):
-        return Pieces("".join(texts), [sum(map(len, texts[:at])) for at in range(len(texts))], [*map(len, texts)])
+    """Changes that are told together move each place as they do one by one. The caret goes to the end of the one that stands farthest down
+    then."""
+    from terminal.text.texts import Change, Changes
 
     numbers, (_, editor, *_) = random.Random(2), opened("")
-    expect(received([]) is None, "no edits are a change")
     for _ in range(500):
-        each, edits, length = [], [], 40
-        for _ in range(numbers.randrange(1, 4)):
-            starts, gone, came = [], [], []
-            for _ in range(numbers.randrange(1, 5)):
-                starts.append(numbers.randrange(length + 1))
-                gone.append("abc"[: numbers.randrange(min(4, length - starts[-1] + 1))])
-                came.append("xyz"[: numbers.randrange(4)])
-                length += len(came[-1]) - len(gone[-1])
-                each.append(Change(1, starts[-1], gone[-1], came[-1]))
-            edits.append(Edits(1, starts, *(pieces(texts) for texts in (gone, came))))
-        each, got = [change for change in each if change.gone or change.came], received(edits)
+        each, length = [], 40
+        while len(each) < numbers.randrange(1, 12):
+            start = numbers.randrange(length + 1)
+            gone, came = "abc"[: numbers.randrange(min(4, length - start + 1))], "xyz"[: numbers.randrange(4)]
+            length += len(came) - len(gone)
+            each += [Change(1, start, gone, came)] if gone or came else []
         if not each:
-            expect(got is None, "edits that change nothing are changes")
             continue
-        expect([*got] == each and len(got) == len(each), f"{each} came as {[*got]}")
+        got = Changes(each)
         for place in range(42):
             wanted = place
             for change in each:
@@ -263,9 +241,25 @@ def check_received_changes(folder):
             last = change.place + len(change.came)
             end = max(last, end + len(change.came) - len(change.gone)) if end > change.place else last
         editor._before, editor._ends = {}, {}
-        for changes in filter(None, (received([some]) for some in edits)):
-            editor.hear_run(changes)
+        at = numbers.randrange(len(each))
+        for changes in filter(None, (each[:at], each[at:])):
+            editor.hear_run(Changes(changes))
         expect(editor._ends == {1: end}, f"{each}: the caret goes to {editor._ends}, wanted {end}")
+
+
+def check_steps_beside_the_host(folder):
+    """What the host changes while a word is typed joins no step of it: each is taken back as it was made."""
+    from terminal.text.texts import Change, Changes
+
+    pair, editor, key, text = opened("one two three\n")
+    pair.press(text("a"))
+    editor.terminal.edit(1, 9, 14, "")
+    editor.texts.hear(Changes([Change(1, 9, "three", "")]))
+    pair.press(text("b"))
+    expect(pair.host.text(1) == "abone two \n", f"this test is wrong: {pair.host.text(1)!r}")
+    for _ in range(3):
+        pair.press(key("^Z"))
+    expect(pair.host.text(1) == "one two three\n", f"the text is {pair.host.text(1)!r}")
 
 
 def check_undo_step_by_step(folder):
@@ -287,7 +281,7 @@ def check_undo_step_by_step(folder):
 def check_undo_without_memory(folder):
     """Where memory is out while a step is taken back or made again, the same key goes on, the other one turns round, and what is typed in
     between is taken back first."""
-    from sulgrevad import NoMemory, Status, Unfinished
+    from sulgrevad import NoMemory, Status
 
     for seed in range(4):
         noted = Noted(seed)
@@ -300,9 +294,7 @@ def check_undo_without_memory(folder):
                 raise NoMemory(Status.NO_MEMORY)
             if numbers.random() < 0.1:
                 raise MemoryError  # of Python, before the library is called
-            edit(*words)
-            if numbers.random() < 0.1:
-                raise Unfinished(Status.UNFINISHED)
+            return edit(*words)
 
         noted.pair.terminal.edit = short
         for at in range(30):
@@ -321,72 +313,29 @@ def check_undo_without_memory(folder):
         expect(noted.pair.host.text(1) == noted.texts[0], f"seed {seed}: it is not all taken back")
 
 
-class Short:
-    """A terminal that is out of memory now and then, before it takes an event or after it."""
-
-    def __init__(self, terminal, numbers):
-        self._terminal, self._numbers = terminal, numbers
-
-    def __getattr__(self, name):
-        from sulgrevad import NoMemory, Status, Unfinished
-
-        act = getattr(self._terminal, name)
-
-        def short(*words):
-            if self._numbers.random() < 0.2:
-                raise NoMemory(Status.NO_MEMORY)
-            act(*words)
-            if self._numbers.random() < 0.2:
-                raise Unfinished(Status.UNFINISHED)
-
-        return short if name in ("select", "snarf", "cut", "paste", "set_snarf", "open", "work") else act
-
-
-def check_vault_without_memory(folder):
-    """Where memory is out while the host keeps a text or puts it back, that goes on, and so what went and what was copied come back."""
-    for seed in range(12):
-        pair, editor, key, text = in_a_small_window(has_vault=True)
-        go_on = editor.vault.go_on
-
-        def until_taken():
-            while True:
-                try:
-                    return go_on()
-                except MemoryError:
-                    continue
-
-        editor.vault.terminal, editor.vault.go_on = Short(pair.terminal, random.Random(seed)), until_taken
-        pair.press(key("Shift-End"), key("^C"), key("^A"), key("Backspace"))
-        expect(pair.host.text(1) == "", f"seed {seed}: it doesn't go: {editor.message}")
+def check_undo_of_the_longest_text(folder):
+    """A text of the greatest length that isn't loaded goes at once, in a round trip, and comes back."""
+    first = "line\n" * 200_000
+    for keys, wanted in (("^A", "^X"), ""), (("^A", "x"), "x"):
+        pair, editor, key, text = opened(first, size=(20, 80))
+        pair.press(*(text(name) if name == "x" else key(name) for name in keys))
+        expect(pair.host.text(1) == wanted, f"{keys}: it doesn't go: {editor.message}")
         pair.press(key("^Z"))
-        expect(pair.host.text(1) == LONG, f"seed {seed}: it doesn't come back: {editor.message}")
-        pair.press(key("^Home"), key("^V"))
-        expect(pair.host.text(1) == "line 0 foo" + LONG, f"seed {seed}: what was copied is lost: {editor.message}")
+        expect(pair.host.text(1) == first, f"{keys}: it doesn't come back: {editor.message}")
+        pair.press(key("^R"))
+        expect(pair.host.text(1) == wanted, f"{keys}: it doesn't go again: {editor.message}")
+        pair.check()
 
 
-def check_room_to_keep(folder):
-    """What the host has no room for is told before it goes. What undo doesn't need any more takes no room."""
-    pair, editor, key, text = opened("line\n" * 200_000, has_vault=True, size=(20, 80))
-    pair.press(key("Shift-End"), key("^C"), key("^A"), key("^X"))
-    expect(len(pair.host.text(1)) == 1_000_000 and "can't bring them back" in editor.message, f"it isn't told: {editor.message}")
-    pair.press(key("^X"))
-    expect(pair.host.text(1) == "", f"an answer is not taken: {editor.message}")
-    pair, editor, key, text = opened("line\n" * 60_000, has_vault=True, size=(20, 80))
-    for _ in range(4):
-        pair.press(key("^A"), key("^X"))
-        expect(pair.host.text(1) == "", f"there is no room: {editor.message}")
-        pair.press(key("^Z"), text("x"))
-
-
-def check_host_keeps_for_undo(folder):
-    """Over a slow link: lines that are not loaded go, and come back. The file for undo is neither shown, nor saved, nor asked about."""
+def check_undo_over_a_slow_link(folder):
+    """Lines that are not loaded go, and come back."""
     (path,) = made(folder, a=LONG)
     with Session(folder, "a.txt", slow=50) as session:
         session.wait_for("line 14 foo")
         session.command("100,2900d")
         session.wait_for("line 2900 foo")
         session.keys("C-z")
-        session.wait_for("line 99 foo")
+        session.wait_for("line 2895 foo")  # the caret stands behind what came
         session.wait_for_quiet()
         session.keys("C-w")
         wait_for_text(path, LONG)
@@ -395,10 +344,6 @@ def check_host_keeps_for_undo(folder):
         session.keys("C-w")
         lines = LONG.splitlines(True)
         wait_for_text(path, "".join(lines[:99] + lines[2900:]))
-        session.keys("C-o")
-        session.wait_for("Files")
-        expect(not session.shows("~~undo~~"), "the file for undo is offered")
-        session.keys("Escape")
         time.sleep(2.5)  # the host saves what has changed
         session.leave()
     left = {entry.name for entry in folder.iterdir()} - {"a.txt", "status", "stderr", ".tmux"}
