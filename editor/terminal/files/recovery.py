@@ -170,9 +170,10 @@ class Recovery:
         if len(filled) > MOST_RUNES:
             editor.message = f"{old.path} is too long"
             return True
-        self._put(old, filled)
-        undo, write = editor.keys.of("undo"), editor.keys.of("write")
-        editor.message = f"{editor.name(tag)} has that text now. {undo} takes it back; once {write} has written it, the old one is dropped"
+        if self._put(old, filled):
+            undo, write = editor.keys.of("undo"), editor.keys.of("write")
+            then = f"{undo} takes it back; once {write} has written it, the old one is dropped"
+            editor.message = f"{editor.name(tag)} has that text now. {then}"
         return True
 
     def _filled(self, old: Old, text: str) -> Optional[str]:
@@ -202,14 +203,16 @@ class Recovery:
         came = f"; {before - lacks} that it lacked came from {source}" if lacks < before else ""
         return self.editor.is_sure(f"it lacks {lacks} characters that were not loaded{came}. Enter again takes it")
 
-    def _put(self, old: Old, text: str) -> None:
-        """Puts a text of this machine, or one that the host has, in the place of its file's."""
+    def _put(self, old: Old, text: str) -> bool:
+        """Puts a text of this machine, or one that the host has, in the place of its file's. Returns whether that was not refused."""
         editor, tag = self.editor, old.of
         editor.log.begin(tag)
-        olds = [old] if self._whole is None else [old, self._whole]  # the text has all of both
-        self._taken[tag] = (olds, editor.log.past[tag][-1])
-        editor.texts.edit(tag, 0, self.terminal.len(tag), text)
+        step = editor.log.past[tag][-1]
+        if not editor.texts.edit(tag, 0, self.terminal.len(tag), text):
+            return False
+        self._taken[tag] = ([old] if self._whole is None else [old, self._whole], step)  # the text has all of both
         editor.window_of(tag).select(0)
+        return True
 
     def _text_of(self, tag: int) -> str:
         return self.editor.texts.read(tag, 0, self.terminal.len(tag))
