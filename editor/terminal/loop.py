@@ -9,7 +9,7 @@ import select
 import signal
 import time
 from collections import deque
-from typing import Callable, Deque, Dict, List, Optional
+from typing import Callable, Deque, Dict, List, Optional, Tuple
 
 from .keys.decoder import Decoder
 from .editor import Editor
@@ -48,6 +48,7 @@ class Loop:
         self.decoder = Decoder(sequences())
         self.keys: Deque[Input] = deque()  # those that the editor has not taken
         self._is_behind = False  # not all of what has come is done
+        self._level_at: Optional[Tuple[int, int]] = None  # after how many deeds and news of the line the client had nothing more to do
         self.is_short = False  # memory was too small since the last pause
         self.ended_by = 0  # the signal that ended the session
         self.drawn_at = 0.0  # when what had come was drawn, or there was nothing more to draw
@@ -265,7 +266,13 @@ class Loop:
             self.editor.lose(self.link.why)
 
     def _go_on(self) -> None:
+        """Goes on for a while, if anything was done or heard since nothing was left."""
+        if self._level_at == (self.terminal.deeds, self.link.news):
+            return
+        news, self._level_at = self.link.news, None
         self._is_behind = not self.editor.go_on(time.monotonic() + LONGEST_AT_ONCE)
+        if not self._is_behind:
+            self._level_at = self.terminal.deeds, news
 
     def _update(self) -> None:
         """Bytes have come. Where nothing is left to be done by that, it need not be looked for that again before it sleeps."""

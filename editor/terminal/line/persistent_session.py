@@ -3,6 +3,7 @@
 Each connection is a process that carries bytes to the session and back (a relay). The library's `Client` keeps what the host has not
 acknowledged, and says when a connection is made, asked and given up.
 """
+import contextlib
 import os
 import re
 import select
@@ -73,6 +74,7 @@ class PersistentSession:
         self._last_line = ""  # of a connection's standard error
         self._unheard = bytearray()  # what came, and for which there was no memory
         self.has_out = True  # the client may have something for the connection
+        self.news = 0  # how often the line was told something, by which the client may go on
         self._sent_at: Optional[int] = None  # how much was done then
         self._notes_met = 0
         self._called_at = 0.0
@@ -92,9 +94,15 @@ class PersistentSession:
         return int(self.clock() * 1000)
 
     def _note(self) -> None:
-        """The line stands otherwise, or may. It is looked at several times at each key, and asked once; what comes on a line that stands
-        makes nothing due sooner."""
-        now, was, self.has_out = self._now, self._details.state, True
+        """The line was told something: it may have bytes, the client may go on by that, and it may stand otherwise."""
+        self.has_out = True
+        self.news += 1
+        self._look()
+
+    def _look(self) -> None:
+        """The line may stand otherwise. It is looked at several times at each key, and asked once; what comes on a line that stands makes
+        nothing due sooner."""
+        now, was = self._now, self._details.state
         self._details = self.client.describe(now)
         self._quiet_at = self.clock() - self._details.silence / 1000
         if not (was == self._details.state == Client.OPEN and self._due_at is not None and self.clock() < self._due_at):
@@ -228,7 +236,7 @@ class PersistentSession:
             data = b"" if was_waiting else self._taken_out(room)
             relay.send(data)
             if data:
-                self._note()
+                self._look()
             self.has_out = bool(relay.waiting)
             if relay.waiting or (len(data) < room and not was_waiting):
                 return
@@ -237,6 +245,7 @@ class PersistentSession:
     def put_note(self, note: Note) -> None:
         """Sends a message, behind all that has acted. A path that is too long for one raises `SamError`, and nothing is sent."""
         self.client.put_note(write_note(note), self._now)
+        self._note()
 
     def _taken_out(self, room: int) -> bytes:
         """The next bytes for the connection; none where it is over."""
@@ -331,7 +340,8 @@ class PersistentSession:
             self._meet_name(note)
         elif note is not None and note.kind == NoteKind.ENDED:
             self.ended_with = min(note.number, MOST_STATUS)
-            self.client.acknowledge()
+            with contextlib.suppress(MemoryError):  # it waits for that, and not for long
+                self.client.acknowledge()
             self.send()
             self._lose("the host is gone")
         elif note is not None and note.kind == NoteKind.TAKEN_OVER:
