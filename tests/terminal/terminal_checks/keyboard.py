@@ -293,7 +293,7 @@ def check_line_too_long(folder):
 
 def check_calls_of_a_key(folder):
     """A key makes at most 25 calls of the library until it is drawn and sent, and so does the host's answer to it."""
-    from sulgrevad import client, sides, terminal
+    from sulgrevad import sides, terminal
 
     class Counting:
         """The library, with a count of its calls."""
@@ -308,7 +308,7 @@ def check_calls_of_a_key(folder):
     pair, editor, key, text = opened("one\ntwo\n" * 20)
     pair.finish()
     library = sides.LIBRARY
-    sides.LIBRARY = terminal.LIBRARY = client.LIBRARY = counting = Counting(library)
+    sides.LIBRARY = terminal.LIBRARY = counting = Counting(library)
     try:
         for typed in (text("x"), key("Left"), text("y"), key("Backspace")):
             counting.calls = 0
@@ -316,7 +316,7 @@ def check_calls_of_a_key(folder):
             pair.pause()
             expect(0 < counting.calls <= 25, f"{typed} makes {counting.calls} calls")
     finally:
-        sides.LIBRARY = terminal.LIBRARY = client.LIBRARY = library
+        sides.LIBRARY = terminal.LIBRARY = library
     pair.finish()
     expect(pair.host.text(1).startswith("xone") or pair.host.text(1).startswith("one"), "the keys are lost")
 
