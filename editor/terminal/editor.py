@@ -69,7 +69,7 @@ class Editor(WindowLayout, KeyQueue, Actions):
         told.update({Kind.HBINDNAME: known.touch, Kind.HDIRTY: known.touch})
         self.colours = Colours(self.name, tell=lambda line: self.notes.keep(1, line))
         terminal.told, terminal.settled = told, {Kind.HUNLOCK: self._meet_unlock, Kind.HSETSNARF: self.meet_snarf}
-        terminal.give_back, terminal.refuse = self._take_back, self._tell_refusal
+        terminal.give_back, terminal.refuse, terminal.forget_changes = self._take_back, self._tell_refusal, self._forget_changes
         hear = self.log.hear, self.numbers.hear, self.keeping.hear_changes, self.hear_changes, self.hear_pasting, self.colours.hear
         self.texts.listeners, self.texts.host_listeners = [*hear], [self.hear_run]
         self.pointer, self.menu, self.help = Pointer(self), None, None  # the help lies over all else
@@ -235,10 +235,19 @@ class Editor(WindowLayout, KeyQueue, Actions):
         if typed and self.cut_text:
             why += f"; {self.keeping.keep_typed(typed)}"
         elif typed:
-            self.terminal.set_snarf(typed)
-            self.note_snarfed(typed)
-            why += f"; {self.keys.of('paste')} has what you typed for it"
+            try:
+                self.terminal.set_snarf(typed)
+                self.note_snarfed(typed)
+                why += f"; {self.keys.of('paste')} has what you typed for it"
+            except (SamError, MemoryError):  # the host can't have it
+                why += f"; {self.keeping.keep_typed(typed)}"
         self.notes.keep(1, why)
+
+    def _forget_changes(self, tag: int) -> None:
+        """Memory was out while a text was changed: nobody knows what it had before."""
+        for memory in (self.log, self.numbers, self.colours):
+            memory.drop(tag)
+        self.keeping.note_change(tag)
 
     def _meet_close(self, tag: int) -> None:
         for memory in (self.log, self.numbers, self.keeping, self.left, self.colours):
@@ -428,7 +437,7 @@ class Editor(WindowLayout, KeyQueue, Actions):
         except Exception:  # a fault of this program ends it
             self.keeping.typed_late += self.texts.left
             raise
-        if self.terminal.exited:
+        if self.texts.left and self.terminal.exited:
             self.keeping.typed_late += self.texts.left
         self._answered = ""
         if self._again is not None:

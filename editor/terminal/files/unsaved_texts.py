@@ -69,7 +69,11 @@ class UnsavedTexts:
         return words_of(self._refused[tag][1]) if tag in self._refused else ""
 
     def hear_changes(self, changes: Changes) -> None:
-        self._changes[changes.tag] += len(changes)
+        self.note_change(changes.tag, len(changes))
+
+    def note_change(self, tag: int, count: int = 1) -> None:
+        """A text changed so many times: what the host has saved aside before lacks that."""
+        self._changes[tag] += count
 
     def meet(self, note: Note) -> None:
         """A message of the host about a text: whether it is written, and where a copy of it is."""

@@ -1,14 +1,14 @@
 """The client as the editor uses it: the texts that are shown, a selection of each, and what is asked of the host."""
 import time
 from collections import deque
-from contextlib import suppress
+from contextlib import contextmanager, suppress
 from functools import partialmethod
 from typing import Callable, Deque, Dict, Iterator, List, Optional, Sequence, Set, Tuple
 
 from .text_copy import Edit, TextCopy
 from .texts import COMMAND, GAP, MOST_RUNES, MOST_TYPED, Change, Changes
-from sulgrevad import Client, ClientEventKind, Dropped, EditRefused, EventKind, FileState, Kind, Replacement, SamError, ShownEdit, Splice
-from sulgrevad import SpliceKind, Status, Step, TerminalDid, TerminalState, TooMany, Waiting
+from sulgrevad import Client, ClientEvent, ClientEventKind, Dropped, EditRefused, EventKind, FileState, Kind, Replacement, SamError
+from sulgrevad import ShownEdit, Splice, SpliceKind, Status, Step, TerminalDid, TerminalState, TooMany, Waiting
 
 NAMING = (Kind.HNEWNAME, Kind.HMOVNAME, Kind.HDELNAME)  # frames that change a name
 
@@ -50,7 +50,7 @@ class ClientTerminal:
         self.hear: Callable[[bytes], None] = lambda note: None  # a note of the host's program
         self.refuse: Callable[[Status], None] = lambda why: None  # something that the user did
         self.give_back: Callable[[Dropped], None] = lambda dropped: None  # runes for which the host left no room
-        self.forget_changes: Callable[[int], None] = lambda tag: None  # of a file: memory was out for what went
+        self.forget_changes: Callable[[int], None] = lambda tag: None  # of a file: memory was out for what it had
         self.deeds = 0  # how often something was done
         self.has_begun = False  # the host's stream has
         self.loads: Dict[int, int] = {}  # how many runes were asked for of files that are locked since
@@ -69,7 +69,7 @@ class ClientTerminal:
         self._notes: Deque[bytes] = deque()
         self._settled_at = 0  # after which deed it was looked what is answered
         self._is_level = False  # all that has come is done
-        self._is_broken_off = False  # changes of the last step may be left
+        self._event: Optional[ClientEvent] = None  # what the client told last, until it is met
         self._bound: Optional[int] = None  # the file that the last frame opened; its text comes next
         self._awaited: Set[int] = set()  # files whose text or selection the host's answer sets
         self._works_on: Optional[int] = None  # the file on which command lines work
@@ -80,24 +80,25 @@ class ClientTerminal:
     def go_on(self, until: Optional[float] = None) -> bool:
         """Does what can be done by what has come and by what waits here, and tells of it. Returns whether all of that is done; where a time
         is given it stops then. Raises what the client raises; what is not done then is done by the next call."""
-        is_done = self._is_level = False
-        deeds = self.deeds
+        self._is_level = False
         try:
-            while not is_done:
-                is_done = self._move() == ClientEventKind.IDLE
-                self._follow()
+            while not self._has_moved_all():
                 if until is not None and self.clock() >= until:
-                    break
+                    return False
         finally:
             self._tell_changes()
-        if not is_done:
-            return False
         self._is_level = True
-        if deeds == self.deeds == self._settled_at:
+        if self.deeds == self._settled_at:
             return True
         self._note_settled()
         self._settled_at = self.deeds
         return not self._take_back() or self.go_on(until)
+
+    def _has_moved_all(self) -> bool:
+        """Goes on to the next event. Returns whether nothing moves any more, and nothing was asked for by what had come."""
+        is_idle, deeds = self._move() == ClientEventKind.IDLE, self.deeds
+        self._follow()
+        return is_idle and deeds == self.deeds
 
     def act(self) -> None:
         """Has what was asked for act at once, if nothing is in its way. What is to follow waits for `go_on`."""
@@ -106,32 +107,34 @@ class ClientTerminal:
         self._tell_changes()
 
     def _move(self) -> ClientEventKind:
-        try:
-            if self._is_broken_off:
-                self._make_changes(None)
-            self._is_broken_off = True
-            try:
-                event = self.client.edits(int(self.clock() * 1000), self._edits, GAP)
-            finally:
-                self._make_edits()
+        """Goes on to the next event, or to the last one where memory was out for it, and does what that says."""
+        with self._known_texts():
+            event = self._next_event()
             if event.did is not None:
                 self._forget()
                 if event.did.step == Step.RECEIVED or event.did.tag == COMMAND:  # what acts in another file is shown already
                     self._make_changes(event.did)
-            self._is_broken_off = False
+        self._meet_event(event)
+        self._event = None
+        return event.kind
+
+    def _next_event(self) -> ClientEvent:
+        if self._event is None:
+            try:
+                self._event = self.client.edits(int(self.clock() * 1000), self._edits, GAP)
+            finally:
+                self._make_edits()
+        return self._event
+
+    @contextmanager
+    def _known_texts(self) -> Iterator[None]:
+        """Changes of the client's texts and of the copies. Where Python has no memory between the two nobody knows what was made."""
+        try:
+            yield
         except MemoryError as error:
-            if not isinstance(error, SamError):  # nobody knows what was made
+            if not isinstance(error, SamError):
                 self.read_anew()
             raise
-        if event.kind == ClientEventKind.BUSY:
-            self._forget()
-        elif event.kind == ClientEventKind.STEPPED and event.did is not None:
-            self._meet(event.did)
-        elif event.did is not None and event.did.why is not None:
-            self.refuse(event.did.why)
-        elif event.kind == ClientEventKind.NOTE:
-            self._notes.append(self.client.note)
-        return event.kind
 
     def read_anew(self) -> None:
         """What was done was broken off: all texts are read anew, and what was done before can't be taken back."""
@@ -139,8 +142,14 @@ class ClientTerminal:
             pass
         self._edits.clear()
         self._changes.clear()
+        self._forget()
         for tag in [*self._copies]:
-            del self._copies[tag]
+            length, (low, high) = self.client.len(tag) if self.is_open(tag) else 0, self.dot(tag)
+            self._dots[tag] = min(low, length), min(high, length)
+            if self.is_open(tag):
+                del self._copies[tag]
+            else:
+                self._copies[tag] = TextCopy()
             self.forget_changes(tag)
             self.touch(tag)
 
@@ -150,6 +159,17 @@ class ClientTerminal:
         self._now = self._requests = None
         self._files.clear()
         self._unsaved.clear()
+
+    def _meet_event(self, event: ClientEvent) -> None:
+        did = event.did
+        if event.kind == ClientEventKind.BUSY:
+            self._forget()
+        elif event.kind == ClientEventKind.NOTE:
+            self._notes.append(self.client.note)
+        elif event.kind == ClientEventKind.STEPPED and did is not None:
+            self._meet(did)
+        elif did is not None and did.why is not None:
+            self.refuse(did.why)
 
     def _meet(self, did: TerminalDid) -> None:
         if did.step != Step.RECEIVED:
@@ -195,9 +215,12 @@ class ClientTerminal:
         if dropped is None:
             return False
         self._forget()
-        self._change_each(dropped.tag, [(dropped.place, dropped.length, "")])
-        self._tell_changes()
-        self.give_back(dropped)
+        try:
+            with self._known_texts():
+                self._change_each(dropped.tag, [(dropped.place, dropped.length, "")])
+            self._tell_changes()
+        finally:
+            self.give_back(dropped)  # the client has them no more
         return True
 
     def _note_settled(self) -> None:
@@ -234,14 +257,14 @@ class ClientTerminal:
 
     def _fill(self, tag: int, place: int, came: str) -> None:
         """Runes are loaded, which is no change."""
-        self._copy(tag).replace(place, place + len(came), came)
+        if tag in self._copies:
+            self._copies[tag].replace(place, place + len(came), came)
         self.touch(tag)
 
-    def _make_changes(self, did: Optional[TerminalDid]) -> None:
+    def _make_changes(self, did: TerminalDid) -> None:
         """Makes the changes of the last step in the copies."""
-        self._make_edits()
         splices = [*self.client.splices()]
-        is_opening = did is not None and did.kind == Kind.HGROW and did.tag == self._bound
+        is_opening = did.kind == Kind.HGROW and did.tag == self._bound
         for at, splice in enumerate(splices, 1):
             kind, tag, place, length = splice
             if kind == SpliceKind.EMPTIED:
@@ -252,8 +275,8 @@ class ClientTerminal:
                 came = self.client.runes(tag, place_after(splice, splices[at:]), length, GAP)
                 if kind == SpliceKind.FILLED:
                     self._fill(tag, place, came)
-                elif is_opening:  # which is no change
-                    self._copy(tag).replace(place, place, came)
+                elif is_opening and tag in self._copies:  # which is no change
+                    self._copies[tag].replace(place, place, came)
                     self.touch(tag)
                 else:
                     self._change_each(tag, [(place, 0, came)])
@@ -272,8 +295,10 @@ class ClientTerminal:
         self._changes += [Change(tag, edit[0], text, edit[2]) for edit, text in zip(edits, gone) if text or edit[2]]
 
     def _replaced(self, tag: int, edits: Sequence[Edit]) -> List[str]:
-        """The same. Returns what goes, and tells of nothing."""
-        gone, (low, high) = self._copy(tag).replace_each(edits), self._dots.get(tag, (0, 0))
+        """The same. Returns what goes, GAP where that is not known, and tells of nothing. A text that is not copied has them already, as it
+        is read once it is asked for."""
+        copy, (low, high) = self._copies.get(tag), self._dots.get(tag, (0, 0))
+        gone = [GAP * count for _, count, _ in edits] if copy is None else copy.replace_each(edits)
         if edits[-1][0] < high:
             for place, count, came in edits:
                 low, high = moved(low, place, count, len(came)), moved(high, place, count, len(came))
@@ -308,38 +333,33 @@ class ClientTerminal:
     def _edit(self, tag: int, start: int, end: int, came: str) -> str:
         if self.is_open(tag):
             self._copy(tag)  # as it is before
-        self.client.replace(tag, start, end, came)
-        self._forget()
-        try:
+        with self._known_texts():
+            self.client.replace(tag, start, end, came)
+            self._forget()
             return self._replaced(tag, [(start, end - start, came)])[0]
-        except MemoryError:
-            self.read_anew()
-            raise
 
-    def edit_each(self, tag: int, replacements: List[Replacement]) -> int:
-        """The same of several, each at places of what those before have left. Returns how many were made before one that is refused."""
+    def edit_each(self, tag: int, replacements: List[Replacement]) -> Iterator[int]:
+        """The same of several, each at places of what those before have left. Yields how many more were made, and ends before one that is
+        refused."""
         made = 0
         while made < len(replacements):
-            made += self._edit_each(tag, replacements[made:])
-            if made < len(replacements):
-                if self.edit(tag, *replacements[made]) is None:
-                    break
-                made += 1
-        return made
+            more = self._edit_each(tag, replacements[made:])
+            if more == 0 and self.edit(tag, *replacements[made]) is None:
+                return
+            made += max(1, more)
+            yield max(1, more)
 
     def _edit_each(self, tag: int, replacements: List[Replacement]) -> int:
+        """The same by one call. Returns how many were made, 0 where the first one is refused."""
         self._copy(tag)  # as it is before
-        try:
-            made = self.client.replace_each(tag, replacements)
-        except EditRefused:
-            return 0
-        self._forget()
-        try:
+        with self._known_texts():
+            try:
+                made = self.client.replace_each(tag, replacements)
+            except EditRefused:
+                return 0
+            self._forget()
             for start, end, came in replacements[:made]:
                 self._replaced(tag, [(start, end - start, came)])
-        except MemoryError:
-            self.read_anew()
-            raise
         return made
 
     def _has_room(self, tag: int, gone: int, came: int) -> bool:
@@ -353,10 +373,10 @@ class ClientTerminal:
     def _edit_in_two(self, tag: int, start: int, end: int, came: str) -> str:
         """Has the runes gone before others come. Nothing moves a place of a free file between the two."""
         gone = self._edit(tag, start, end, "")
-        self.act()
         try:
+            self.act()
             self._edit(tag, start, start, came)
-        except (EditRefused, MemoryError):
+        except (SamError, MemoryError):
             self.forget_changes(tag)
             self.give_back(Dropped(tag, start, len(gone), gone))
             raise

@@ -128,7 +128,6 @@ class Undo:
 
     def __init__(self, terminal: ClientTerminal, texts: Texts):
         self.terminal, self.texts = terminal, texts
-        terminal.forget_changes = self.drop
         self.past: Steps = {}
         self.future: Steps = {}
         self.goes = ""  # what the host takes out where it changes a text of this length that is not loaded
@@ -175,9 +174,10 @@ class Undo:
             self.past.setdefault(tag, []).append(half)
 
     def drop(self, tag: int) -> None:
-        """The file is gone."""
+        """The file is gone, or what it had before is not known."""
         for steps in (self.past, self.future, self._halves):
             steps.pop(tag, None)
+        self._turned = None if self._turned == tag else self._turned
 
     def last(self, steps: Dict[int, List[Step]], tag: int) -> Optional[Step]:
         """The step of a file that comes next, of those done or of those taken back. One that is taken back in part is both."""
@@ -222,18 +222,21 @@ class Undo:
             for together in _together(runs(changes)):
                 if not together[0].is_known:
                     self._fill(step, changes, made, sign)
-                count = self.terminal.edit_each(tag, [(run.place, run.place + run.gone, "".join(run.came)) for run in together])
-                made += sum(run.count for run in together[:count])
-                if count < len(together):
+                counts = [run.count for run in together]
+                for count in self.terminal.edit_each(tag, [(run.place, run.place + run.gone, "".join(run.came)) for run in together]):
+                    made += sum(counts[:count])
+                    del counts[:count]
+                if counts:
                     return
                 if is_free:
                     self.terminal.act()
             caret = changes[-1].place + len(changes[-1].came)
             self.terminal.select(tag, caret, caret)
         finally:
-            if made:
-                self.texts.tell(Changes(changes[:made]))
-            self._end(tag, step, step.turned + sign * made)
+            if self._turned == tag:  # else nobody knows what was made
+                if made:
+                    self.texts.tell(Changes(changes[:made]))
+                self._end(tag, step, step.turned + sign * made)
 
     def _fill(self, step: Step, changes: List[Change], made: int, sign: int) -> None:
         """Fills what goes with the next change, as far as it is loaded by now. What makes that again has to know it."""

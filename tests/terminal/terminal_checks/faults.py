@@ -199,6 +199,36 @@ class Fed:
         return self.told, files, steps, editor.numbers._known
 
 
+class ShortOfMemory:
+    """The library, which now and then has no memory as a client goes on: before the first step, or behind some edits."""
+
+    def __init__(self, library, numbers):
+        self.library, self.numbers, self.refusals = library, numbers, 0
+
+    def __getattr__(self, name):
+        call = getattr(self.library, name)
+        if name != "sam_client_step_edits":
+            return call
+        short = lambda *words: self._step_edits(call, *words)  # noqa: E731
+        short.argtypes = call.argtypes
+        return short
+
+    def _step_edits(self, call, *words):
+        from sulgrevad import ClientEventKind, Status
+
+        steps, changes, kind = self.numbers.choice((None,) * 7 + (0, 1, 2)), words[2]._obj, words[3]._obj
+        if steps is None:
+            return call(*words)
+        if steps > 0:
+            most, changes.most = changes.most, steps
+            code = call(*words)
+            changes.most = most
+            if code != Status.OK or kind.value != ClientEventKind.BUSY:
+                return code
+        self.refusals += 1
+        return int(Status.UNFINISHED)
+
+
 def pieces_of(numbers, data, most):
     """A stream in pieces of random lengths."""
     while data:
@@ -241,37 +271,61 @@ def check_stream_in_pieces(folder):
 
 def check_stream_without_memory(folder):
     """Where memory is wanting now and then no edit is lost, and none is told twice, though some of them wait in the client."""
-    from sulgrevad import Status, client
-
-    class Short:
-        """The library, which at some calls of two has no memory."""
-
-        REFUSED = {"sam_client_next_event": Status.UNFINISHED}
-
-        def __init__(self, library, is_short):
-            self.library, self.is_short = library, is_short
-
-        def __getattr__(self, name):
-            call, refused = getattr(self.library, name), self.REFUSED.get(name)
-            if refused is None:
-                return call
-            short = lambda *words: int(refused) if self.is_short() else call(*words)  # noqa: E731
-            short.argtypes = call.argtypes
-            return short
+    from sulgrevad import sides
 
     for seed in range(40):
         quick, slow = Fed(random.Random(seed)), Fed(random.Random(seed))
         frames = some_edits(random.Random(seed), quick.lengths())
         quick.feed(b"".join(frames))
-        numbers, library = random.Random(seed), client.LIBRARY
-        client.LIBRARY = Short(library, lambda: numbers.random() < 0.3)
+        numbers, library = random.Random(seed), sides.LIBRARY
+        short = sides.LIBRARY = ShortOfMemory(library, numbers)
         try:
             for piece in [*pieces_of(numbers, b"".join(frames), 300), *[b""] * 1000]:
                 with contextlib.suppress(MemoryError):
                     slow.feed(piece)
         finally:
-            client.LIBRARY = library
+            sides.LIBRARY = library
+        expect(short.refusals > 20, f"seed {seed}: this test is wrong: memory was out {short.refusals} times")
         expect(slow.state() == quick.state(), f"seed {seed}: {slow.state()}, wanted {quick.state()}")
+
+
+def check_texts_that_are_read_anew(folder):
+    """After memory was out in the middle of a change each later one of the host's is made once, though nobody has looked at the text
+    meanwhile; and what went by it counts as not known."""
+    from terminal.text.texts import GAP
+
+    for seed in range(40):
+        quick, slow = Fed(random.Random(seed)), Fed(random.Random(seed))
+        frames, numbers = some_edits(random.Random(seed), quick.lengths()), random.Random(seed)
+        quick.feed(b"".join(frames))
+        for piece in pieces_of(numbers, b"".join(frames), 100):
+            slow.feed(piece)
+            if numbers.random() < 0.3:
+                slow.terminal.read_anew()
+        texts, wanted = ([text for text, *_ in fed.state()[1]] for fed in (slow, quick))
+        expect(texts == wanted, f"seed {seed}: the texts are {texts}, wanted {wanted}")
+    fed = Fed(random.Random(1))
+    fed.terminal.read_anew()
+    fed.feed(frame(CUT, 1, 3, 2))
+    (change,) = fed.told
+    expect((change.place, change.gone) == (3, 2 * GAP), f"it tells {change}")
+
+
+def check_events_without_memory(folder):
+    """Where Python has no memory for what the client told, that is met all the same as it goes on."""
+    fed, tags = Fed(random.Random(1)), []
+
+    def short(tag):
+        tags.append(tag)
+        if len(tags) == 1:
+            raise MemoryError
+
+    fed.terminal.told[DIRTY] = short
+    with contextlib.suppress(MemoryError):
+        fed.feed(frame(DIRTY, 2))
+        raise Failed("this test is wrong: memory is not out")
+    fed.feed()
+    expect(tags == [2, 2], f"the editor hears of {tags}")
 
 
 def check_stream_with_faults(folder):

@@ -2,12 +2,13 @@
 import contextlib
 import io
 import os
+import random
 import signal
 import sys
 import time
 from pathlib import Path
 
-from .messages import aside, lost, not_saved
+from .messages import aside, hidden, lost, not_saved
 from .pairs import Pair, in_a_small_window, opened
 from .support import LINK, SAMHOST, SECONDS, Failed, Session, change_two, expect, made, stat_of, wait_for_text, wait_until
 
@@ -476,6 +477,42 @@ def check_change_without_memory(folder):
         expect("nothing more" in editor.message, f"^Z tells {editor.message!r}")
         pair.press(pair.keys.Text("more"))
         ended(pair, None, (aside(1),), 0).expect([("typed", typed)], f"{len(gone)} runes were to go")
+
+
+def check_given_back_without_memory(folder):
+    """What was typed comes back, since the host left no room for it. Where it can't be pasted, as memory is out, a file here has it."""
+    from sulgrevad import Dropped, NoMemory, Status
+
+    def short(*words):
+        raise NoMemory(Status.NO_MEMORY)
+
+    pair, editor, key, text = opened("one\n")
+    pair.terminal.set_snarf = short
+    with Kept() as kept:
+        pair.terminal.give_back(Dropped(1, 0, 5, "typed"))
+    kept.expect([("typed", "typed")], f"it tells {editor.message!r}")
+
+
+def check_an_old_text_without_room(folder):
+    """A text that an earlier session left, and that has no room in its file while the host works on that, is not taken; a write drops it
+    then as little as before."""
+    pair = Pair(random.Random(1), ("a" * 600_000, "b" * 600_000), names=["a.txt", "~~left~~ 1 + 2026-11-30 02:00:00"])
+    editor, key, text = pair.editor, pair.keys.Key, pair.keys.Text
+    editor.hear(hidden(2))
+    pair.finish(3)
+    pair.terminal.open(2)
+    pair.finish(3)
+    for tag in (1, 2):
+        pair.terminal.load(tag, 0, 600_000)
+        pair.finish(3)
+    pair.press(text("x"))
+    pair.terminal.write(1)
+    (old,) = editor.left.tags.values()
+    editor.left.take(old)
+    expect("more than 1,000,000" in editor.message, f"it tells {editor.message!r}")
+    pair.press(key("^W"), key("^W"))
+    expect(pair.host.text(1) == "x" + "a" * 600_000, "the file has another text")
+    expect(pair.host.text(2) == "b" * 600_000 and editor.left.all == [old], f"what is left is {editor.left.all}")
 
 
 # ---- Numbers, keys and control characters

@@ -287,16 +287,21 @@ def check_undo_without_memory(folder):
         noted = Noted(seed)
         for _ in range(6):
             noted.change()
-        numbers, edit = noted.random, noted.pair.terminal.edit
+        numbers, client = noted.random, noted.pair.ends.client
+        replace, replace_each = client.replace, client.replace_each
 
         def short(*words):
-            if numbers.random() < 0.1:
+            if numbers.random() < 0.3:
                 raise NoMemory(Status.NO_MEMORY)
-            if numbers.random() < 0.1:
-                raise MemoryError  # of Python, before the library is called
-            return edit(*words)
+            return replace(*words)
 
-        noted.pair.terminal.edit = short
+        def short_each(tag, rows):
+            draw = numbers.random()
+            if draw < 0.1:
+                raise NoMemory(Status.NO_MEMORY)
+            return replace_each(tag, rows if draw > 0.5 else rows[: numbers.randrange(1, len(rows) + 1)])
+
+        client.replace, client.replace_each = short, short_each
         for at in range(30):
             log, name = noted.editor.log, numbers.choice(("^Z", "^Z", "^R"))
             noted.pair.press(noted.key(name))
@@ -306,11 +311,37 @@ def check_undo_without_memory(folder):
                 noted.texts[noted.steps + 1] = noted.pair.host.text(1)
                 noted.pair.press(noted.text("z"))
                 noted.texts[noted.steps] = noted.pair.host.text(1)
-        del noted.pair.terminal.edit
+        del client.replace, client.replace_each
         while noted.steps or 1 in noted.editor.log._halves:
             noted.pair.press(noted.key("^Z"))
             noted.expect_text(f"seed {seed}, at the end")
         expect(noted.pair.host.text(1) == noted.texts[0], f"seed {seed}: it is not all taken back")
+
+
+def check_undo_that_is_broken_off(folder):
+    """Where Python has no memory amid the changes of a step nobody knows which were made. So it is forgotten, and what is shown is what the
+    host has."""
+    first = "abc\n" * 50
+    pair, editor, key, text = opened(first)
+    pair.press(key("Esc"), text(",x/a/c/d/\n"), key("Esc"))
+    client = pair.ends.client
+    replace_each = client.replace_each
+
+    def broken_off(tag, rows):
+        replace_each(tag, rows[:7])
+        raise MemoryError
+
+    client.replace_each = broken_off
+    editor.take(key("^Z"))
+    del client.replace_each
+    expect("not enough memory" in editor.message, f"it tells {editor.message!r}")
+    pair.finish()
+    pair.check()
+    there = pair.host.text(1)
+    expect(there.count("a") == 7, f"this test is wrong: the text is {there!r}")
+    for name, told in (("^Z", "nothing more"), ("^R", "nothing was")):
+        pair.press(key(name))
+        expect(pair.host.text(1) == there and told in editor.message, f"{name}: it tells {editor.message!r}")
 
 
 def check_undo_of_the_longest_text(folder):
