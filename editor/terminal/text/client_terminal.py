@@ -3,7 +3,7 @@ import time
 from collections import deque
 from contextlib import contextmanager, suppress
 from functools import partialmethod
-from typing import Callable, Deque, Dict, Iterator, List, Optional, Sequence, Set, Tuple
+from typing import Callable, Deque, Dict, Iterator, List, Optional, Sequence, Tuple
 
 from .text_copy import Edit, TextCopy
 from .texts import COMMAND, GAP, MOST_RUNES, MOST_TYPED, Change, Changes
@@ -59,8 +59,7 @@ class ClientTerminal:
         self._files: Dict[int, FileState] = {}  # what is known of files and of all, until something is done
         self._unsaved: Dict[int, bool] = {}
         self._now: Optional[TerminalState] = None
-        self._requests: Optional[int] = None
-        self._has_asked = False  # requests may wait in the client
+        self._asked = self._acted = 0  # the last request that was taken, and the last of those that have acted or were refused
         self._names: Dict[int, str] = {}
         self._current: Tuple[Optional[int], ...] = ()  # empty where it was not asked
         self._edits: List[ShownEdit] = []  # that came, not made in the copies yet
@@ -71,9 +70,9 @@ class ClientTerminal:
         self._is_level = False  # all that has come is done
         self._event: Optional[ClientEvent] = None  # what the client told last, until it is met
         self._bound: Optional[int] = None  # the file that the last frame opened; its text comes next
-        self._awaited: Set[int] = set()  # files whose text or selection the host's answer sets
+        self._awaited: Dict[int, int] = {}  # files whose text or selection the host's answer sets, and to which request
         self._works_on: Optional[int] = None  # the file on which command lines work
-        self._runs_line = False  # a command line was asked for, and is not answered
+        self._line = 0  # the request of the last command line; 0 once it is answered
 
     # ---- Going on
 
@@ -143,6 +142,8 @@ class ClientTerminal:
         self._edits.clear()
         self._changes.clear()
         self._forget()
+        if self.held == 0:  # also where nobody was told of the last request
+            self._acted = self._asked
         for tag in [*self._copies]:
             length, (low, high) = self.client.len(tag) if self.is_open(tag) else 0, self.dot(tag)
             self._dots[tag] = min(low, length), min(high, length)
@@ -156,12 +157,14 @@ class ClientTerminal:
     def _forget(self) -> None:
         """Something was done."""
         self.deeds += 1
-        self._now = self._requests = None
+        self._now = None
         self._files.clear()
         self._unsaved.clear()
 
     def _meet_event(self, event: ClientEvent) -> None:
         did = event.did
+        if did is not None:
+            self._acted = max(self._acted, did.request)
         if event.kind == ClientEventKind.BUSY:
             self._forget()
         elif event.kind == ClientEventKind.NOTE:
@@ -179,7 +182,7 @@ class ClientTerminal:
         self.has_begun = True
         self._bound = did.tag if did.kind == Kind.HBINDNAME else None
         if self._bound is not None:  # its text comes next
-            self._awaited.add(self._bound)
+            self._awaited[self._bound] = self._acted
         if did.kind in NAMING:
             self._names.pop(did.tag, None)
         elif did.kind == Kind.HCURRENT:
@@ -224,11 +227,13 @@ class ClientTerminal:
         return True
 
     def _note_settled(self) -> None:
-        if self.is_asking:
-            return
-        self._awaited = {tag for tag in self._awaited if self.file(tag).is_locked}
-        self._runs_line = self._runs_line and self.state().command_locked
-        self.loads = {tag: runes for tag, runes in self.loads.items() if self.file(tag).is_locked}
+        """Forgets what is answered: a request that has acted, where its lock is free again."""
+        acted, files = self._acted, [*self._awaited.items()]
+        self._awaited = {tag: request for tag, request in files if request > acted or self.file(tag).is_locked}
+        if 0 < self._line <= acted and not self.state().command_locked:
+            self._line = 0
+        if not self.is_asking:
+            self.loads = {tag: runes for tag, runes in self.loads.items() if self.file(tag).is_locked}
 
     # ---- Changes of the shown texts
 
@@ -397,7 +402,8 @@ class ClientTerminal:
     def type_command(self, text: str) -> None:
         """Types at most MOST_TYPED runes in the command file, in the place of what is selected there. A newline runs a command line."""
         self._ask(EventKind.TYPE_CMD, text=text)
-        self._runs_line = self._runs_line or "\n" in text
+        if "\n" in text:
+            self._line = self._asked
 
     def cut_command(self) -> None:
         self._ask(EventKind.CUT_CMD)
@@ -410,14 +416,14 @@ class ClientTerminal:
     def _ask(self, kind: EventKind, tag: int = 0, start: int = 0, number: int = 0, version: int = 0, text: str = "") -> None:
         """Asks for what is no edit. It acts at once where it can, and all that has come is done; else as this goes on."""
         self._forget()
-        self._has_asked = True
         try:
-            self.client.ask(kind, tag, start, number, version=version, text=text)
+            request = self.client.ask(kind, tag, start, number, version=version, text=text)
         except Waiting:  # memory was out between two steps of an edit
             self.act()
-            self.client.ask(kind, tag, start, number, version=version, text=text)
+            request = self.client.ask(kind, tag, start, number, version=version, text=text)
         except TooMany as why:
             raise MemoryError("too many requests wait") from why
+        self._asked = max(self._asked, request)  # a write may be one that waits already
         if self._is_level:
             with suppress(MemoryError):  # it is taken all the same
                 self.act()
@@ -431,7 +437,7 @@ class ClientTerminal:
     def _ask_for_dot(self, kind: EventKind, tag: int) -> None:
         """Asks for what sets the selection."""
         self._ask_at_dot(kind, tag)
-        self._awaited.add(tag)
+        self._awaited[tag] = self._asked
 
     look = partialmethod(_ask_for_dot, EventKind.LOOK)
     search = partialmethod(_ask_for_dot, EventKind.SEARCH)
@@ -446,11 +452,11 @@ class ClientTerminal:
 
     def dclick(self, tag: int, place: int) -> None:
         self._ask(EventKind.DCLICK, tag, place)
-        self._awaited.add(tag)
+        self._awaited[tag] = self._asked
 
     def send(self, tag: int) -> None:
         self._ask_for_dot(EventKind.SEND, tag)
-        self._runs_line = True
+        self._line = self._asked
 
     def work(self, tag: int) -> None:
         self._ask_at_dot(EventKind.WORK, tag)
@@ -458,7 +464,7 @@ class ClientTerminal:
 
     def close(self, tag: int) -> None:
         self._ask(EventKind.CLOSE, tag)
-        self._awaited.add(tag)
+        self._awaited[tag] = self._asked
 
     def set_snarf(self, text: str) -> None:
         self._ask(EventKind.SET_SNARF, text=text)
@@ -491,16 +497,13 @@ class ClientTerminal:
 
     @property
     def held(self) -> int:
-        """How many requests wait."""
-        if self._requests is None:
-            self._requests = self.client.requests if self._has_asked else 0
-            self._has_asked = self._requests > 0
-        return self._requests + self.state().held
+        """How many requests wait, in the client or its terminal."""
+        return self.client.requests + self.state().held
 
     @property
     def is_asking(self) -> bool:
         """Whether a request waits."""
-        return self.held > 0
+        return self._asked > self._acted
 
     @property
     def unsent(self) -> int:
@@ -532,7 +535,7 @@ class ClientTerminal:
         works on another: what the user types can be put in at once."""
         if not self.is_open(tag) or tag in self._awaited or (tag == COMMAND and self.locked(tag)):
             return False
-        return not self._runs_line or self._works_on not in (None, tag)
+        return not self._line or self._works_on not in (None, tag)
 
     def loading(self) -> Iterator[Tuple[int, int]]:
         """The files that loads lock, and how many runes these ask for."""
