@@ -285,9 +285,10 @@ def steps_of_names():
     pair.host.feed(bytes(pair.up))
     pair.up.clear()
     pair.ends.bring(pair.host.take_out())
-    turns.terminal, turns.editor, turns.link = pair.terminal, editor, SimpleNamespace(is_lost=False, take=lambda ready: [])
+    turns.terminal, turns.editor = pair.terminal, editor
+    turns.link = SimpleNamespace(is_lost=False, news=0, take=lambda ready: [])
     pair.terminal.clock = time.monotonic
-    turns._is_behind, turns.is_short = True, False
+    turns._is_behind, turns._level_at, turns.is_short = True, None, False
     while turns._is_behind:
         with steps.step("names"):
             turns._take_bytes({})

@@ -204,7 +204,7 @@ def check_draws_a_long_answer(folder):
     from terminal import loop
 
     drawn, turns = [], loop.Loop.__new__(loop.Loop)
-    turns._came, turns.drawn_at, turns._quiet_at = [], time.monotonic(), 0.0
+    turns.drawn_at, turns._quiet_at = time.monotonic(), 0.0
     turns._idle = lambda: drawn.append(time.monotonic())
     turns._ready = lambda seconds: {0: 1}
     turns._take_keys = turns._take_signals = lambda ready: None
