@@ -72,7 +72,7 @@ class ClientTerminal:
         self._bound: Optional[int] = None  # the file that the last frame opened; its text comes next
         self._awaited: Dict[int, int] = {}  # files whose text or selection the host's answer sets, and to which request
         self._works_on: Optional[int] = None  # the file on which command lines work
-        self._line = 0  # the request of the last command line; 0 once it is answered
+        self._line_request = 0  # the request of the last command line; 0 once it is answered
 
     # ---- Going on
 
@@ -113,8 +113,12 @@ class ClientTerminal:
                 self._forget()
                 if event.did.step == Step.RECEIVED or event.did.tag == COMMAND:  # what acts in another file is shown already
                     self._make_changes(event.did)
-        self._meet_event(event)
         self._event = None
+        try:
+            self._meet_event(event)
+        except MemoryError:
+            self._event = event
+            raise
         return event.kind
 
     def _next_event(self) -> ClientEvent:
@@ -230,8 +234,8 @@ class ClientTerminal:
         """Forgets what is answered: a request that has acted, where its lock is free again."""
         acted, files = self._acted, [*self._awaited.items()]
         self._awaited = {tag: request for tag, request in files if request > acted or self.file(tag).is_locked}
-        if 0 < self._line <= acted and not self.state().command_locked:
-            self._line = 0
+        if 0 < self._line_request <= acted and not self.state().command_locked:
+            self._line_request = 0
         if not self.is_asking:
             self.loads = {tag: runes for tag, runes in self.loads.items() if self.file(tag).is_locked}
 
@@ -403,7 +407,7 @@ class ClientTerminal:
         """Types at most MOST_TYPED runes in the command file, in the place of what is selected there. A newline runs a command line."""
         self._ask(EventKind.TYPE_CMD, text=text)
         if "\n" in text:
-            self._line = self._asked
+            self._line_request = self._asked
 
     def cut_command(self) -> None:
         self._ask(EventKind.CUT_CMD)
@@ -456,7 +460,7 @@ class ClientTerminal:
 
     def send(self, tag: int) -> None:
         self._ask_for_dot(EventKind.SEND, tag)
-        self._line = self._asked
+        self._line_request = self._asked
 
     def work(self, tag: int) -> None:
         self._ask_at_dot(EventKind.WORK, tag)
@@ -535,7 +539,7 @@ class ClientTerminal:
         works on another: what the user types can be put in at once."""
         if not self.is_open(tag) or tag in self._awaited or (tag == COMMAND and self.locked(tag)):
             return False
-        return not self._line or self._works_on not in (None, tag)
+        return not self._line_request or self._works_on not in (None, tag)
 
     def loading(self) -> Iterator[Tuple[int, int]]:
         """The files that loads lock, and how many runes these ask for."""
