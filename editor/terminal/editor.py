@@ -394,7 +394,9 @@ class Editor(WindowLayout, KeyQueue, Actions):
         """Seconds until something is to be done though nothing comes; None where that has no end. A time that has come since the last
         update counts: else nobody would ask any more for what that left."""
         now = self.clock()
-        waits = [self.way.seconds, self.keeping.seconds_until_here, self.joining.seconds, self.left.seconds]
+        waits = [self.keeping.seconds_until_here, self.joining.seconds, self.left.seconds]
+        if self.has_details:  # else nobody is told of messages on the way
+            waits.append(self.way.seconds)
         waits += [when - now for when in self._asks_at]
         if not self.is_lost:
             waits.append(self.way.seconds_of_silence)

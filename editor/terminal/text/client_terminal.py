@@ -57,6 +57,7 @@ class ClientTerminal:
         self._copies: Dict[int, TextCopy] = {}
         self._dots: Dict[int, Tuple[int, int]] = {}
         self._files: Dict[int, FileState] = {}  # what is known of files and of all, until something is done
+        self._opened: Dict[int, bool] = {}  # whether a file is open, until a frame comes that is no edit
         self._unsaved: Dict[int, bool] = {}
         self._now: Optional[TerminalState] = None
         self._asked = self._acted = 0  # the last request that was taken, and the last of those that have acted or were refused
@@ -69,6 +70,7 @@ class ClientTerminal:
         self._settled_at = 0  # after which deed it was looked what is answered
         self._is_level = False  # all that has come is done
         self._event: Optional[ClientEvent] = None  # what the client told last, until it is met
+        self._has_grown = False  # the host has put something in since it was looked whether what waits has room
         self._bound: Optional[int] = None  # the file that the last frame opened; its text comes next
         self._awaited: Dict[int, int] = {}  # files whose text or selection the host's answer sets, and to which request
         self._works_on: Optional[int] = None  # the file on which command lines work
@@ -146,6 +148,7 @@ class ClientTerminal:
         self._edits.clear()
         self._changes.clear()
         self._forget()
+        self._opened.clear()
         if self.held == 0:  # also where nobody was told of the last request
             self._acted = self._asked
         for tag in [*self._copies]:
@@ -184,6 +187,7 @@ class ClientTerminal:
                 self._take_dot(COMMAND)
             return
         self.has_begun = True
+        self._opened.clear()
         self._bound = did.tag if did.kind == Kind.HBINDNAME else None
         if self._bound is not None:  # its text comes next
             self._awaited[self._bound] = self._acted
@@ -215,7 +219,10 @@ class ClientTerminal:
 
     def _take_back(self) -> bool:
         """Takes back what waits and has no room, since the host put more in meanwhile. Returns whether there was any."""
+        if not self._has_grown:
+            return False
         tag = self.client.next_waiting()
+        self._has_grown = tag is not None
         while tag is not None and not self.client.file(tag).is_free:
             tag = self.client.next_waiting(tag + 1)
         dropped = None if tag is None else self.client.drop_next(tag)
@@ -253,7 +260,7 @@ class ClientTerminal:
                 gone = count if kind == WENT else 0
                 if edits and (kind == FILLED or tag != last or place + gone > low):
                     self._change_each(last, edits)
-                    edits = []
+                    edits, self._has_grown = [], True
                 if kind == FILLED:
                     self._fill(tag, place, came)
                 else:
@@ -261,6 +268,7 @@ class ClientTerminal:
                     last, low = tag, place
             if edits:
                 self._change_each(last, edits)
+                self._has_grown = True
             if COMMAND in self._copies:
                 self._take_dot(COMMAND)
 
@@ -273,6 +281,7 @@ class ClientTerminal:
     def _make_changes(self, did: TerminalDid) -> None:
         """Makes the changes of the last step in the copies."""
         splices = [*self.client.splices()]
+        self._has_grown = self._has_grown or bool(splices)
         is_opening = did.kind == Kind.HGROW and did.tag == self._bound
         for at, splice in enumerate(splices, 1):
             kind, tag, place, length = splice
@@ -549,7 +558,10 @@ class ClientTerminal:
         return self.file(tag).is_known
 
     def is_open(self, tag: int) -> bool:
-        return self.file(tag).is_open
+        is_open = self._opened.get(tag)
+        if is_open is None:
+            is_open = self._opened[tag] = self.file(tag).is_open
+        return is_open
 
     def is_changed(self, tag: int) -> bool:
         is_unsaved = self._unsaved.get(tag, None if tag != COMMAND else False)

@@ -274,7 +274,7 @@ def window_rows(editor: Editor, window: Window) -> Dict[int, List[Run]]:
 
 
 def drawn_of(editor: Editor, window: Window) -> Drawn:
-    is_focus, tag, (_, dot, _, layout) = window is editor.shown_focus, window.tag, window.look()
+    is_focus, tag, (dot, _, layout) = window is editor.shown_focus, window.tag, window.look()
     title = f"{'>' if is_focus else ' '}{'*' if editor.is_changed(tag) else ' '} {editor.name(tag)}"
     by: tuple = (title, is_focus, window.y, window.width, window.gutter, window.is_row)
     if layout is not None:
@@ -409,9 +409,9 @@ def menu_rows(menu, rows: int, columns: int) -> Dict[int, List[Run]]:
 def status(editor: Editor, link: PersistentSession) -> str:
     """Name, mark of a change, the caret's line, and what is wrong; with details also what goes over the line."""
     window, way = editor.active, editor.way
-    name, file = editor.name(window.tag), window.look().file
+    name = editor.name(window.tag)
     parts = [("…" + name[-MOST_IN_STATUS:] if len(name) > MOST_IN_STATUS else name) + (" *" if editor.is_changed(window.tag) else "")]
-    if file.is_open:
+    if window.is_open:
         parts += place_of(editor, window, window.length)
     if editor.is_lost:
         parts.append("HOST LOST")
@@ -428,7 +428,7 @@ def status(editor: Editor, link: PersistentSession) -> str:
 
 def place_of(editor: Editor, window: Window, length: int) -> List[str]:
     """The line of the caret, of how many; with details the selection, of how many characters, and the line. Each as far as it is known."""
-    tag, (_, dot, caret, _) = window.tag, window.look()
+    tag, (dot, caret, _) = window.tag, window.look()
     line = editor.numbers.line(tag, caret)
     if editor.has_details:
         return [f"{dot[0]},{dot[1]} of {length}" + (f", line {line}" if line is not None else "")]
@@ -462,7 +462,7 @@ def locks_of(editor: Editor) -> str:
 def cursor_of(editor: Editor) -> Optional[Tuple[int, int]]:
     """Where the cursor stands; None where it is not to be seen."""
     window, menu = editor.shown_focus, editor.shown_menu
-    _, _, caret, layout = window.look()
+    _, caret, layout = window.look()
     if (menu is not None and menu.is_box) or layout is None or not layout.shows(caret):
         return None
     row, column = layout.position_of(caret)

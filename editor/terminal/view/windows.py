@@ -2,7 +2,6 @@
 from typing import NamedTuple, Optional, Tuple
 
 from .layout import Layout, line_start, row_start, top_above
-from sulgrevad import FileState
 from ..keys.motions import Targets
 from ..text.client_terminal import ClientTerminal
 from ..text.texts import GAP, Change, Changes, Texts
@@ -47,9 +46,8 @@ class Aim(NamedTuple):
 
 
 class Look(NamedTuple):
-    """What a window shows, asked for once: what is known of its file; and of an open one the selection, its end that moves, the rows."""
+    """What a window shows, asked for once: the selection, its end that moves, the rows; no rows where its file is not open."""
 
-    file: FileState
     dot: Tuple[int, int] = (0, 0)
     caret: int = 0
     layout: Optional[Layout] = None
@@ -126,11 +124,10 @@ class Window:
 
     def look(self) -> Look:
         """What it shows now."""
-        file = self.terminal.file(self.tag)
-        if not file.is_open:
-            return Look(file)
+        if not self.is_open:
+            return Look()
         dot = self.dot
-        return Look(file, dot, self._moving_end(dot), self._layout_at(self.length))
+        return Look(dot, self._moving_end(dot), self._layout_at(self.length))
 
     def layout(self) -> Layout:
         """The rows that the window shows."""
@@ -195,7 +192,7 @@ class Window:
     def update(self, is_busy: bool = False, rests: bool = False, turns: int = 0) -> None:
         """Follows what the host and the user did, and has the terminal load what is shown; while the user is busy only what he needs, and
         while he rests what he may turn to next. `turns` is how many page keys wait, as for `ask`."""
-        _, dot, _, layout = self.look()
+        dot, _, layout = self.look()
         if layout is None:
             return
         if layout is not self._loaded or dot != self._followed or self._is_shifted or self._aim is not None:
@@ -232,7 +229,7 @@ class Window:
 
     def _follow_dot(self) -> None:
         """Brings a dot that has moved into view."""
-        _, dot, place, layout = self.look()
+        dot, place, layout = self.look()
         if dot == self._followed:
             return
         self._followed = dot

@@ -217,7 +217,8 @@ class Pair:
     def check(self):
         expect(self.terminal.held == 0 and not self.editor.deferred, "an event is held for ever")
         expect(not self.editor.is_lost, self.editor.message)
-        expect(self.editor.way.has_all and self.editor.way.told == 0, "a message stays on the way")
+        way = self.editor.way
+        expect(way.has_all and way.seconds is None and way.told == 0, "a message stays on the way")
         for window in self.editor.windows:
             if window.is_open:
                 shown = window.read(0, window.length)
