@@ -148,3 +148,51 @@ def check_rows_that_are_kept(folder):
     """Random keys, sizes and answers of the host, in a text with colours and in others: after each the screen is as if drawn anew."""
     few = sum(map(expect_nothing_stale, range(SEEDS)))
     expect(few > SEEDS * KEYS // 25, f"this test is wrong: of {SEEDS * KEYS} drawings {few} alone draw few rows")
+
+
+def some_rows(numbers, text):
+    """Changes of a text, each before the place of the one before it; and the text with them."""
+    rows, end = [], len(text)
+    while end >= 0 and len(rows) < 6:
+        place = numbers.randrange(end + 1)
+        count, came = numbers.randrange(min(4, end - place) + 1), "".join(numbers.choice("xy\n") for _ in range(numbers.randrange(20)))
+        rows.append((place, count, came))
+        text, end = text[:place] + came + text[place + count :], place - 1
+    return rows, text
+
+
+def expect_as_a_string(numbers, copy, text, gap):
+    """Each reader of a text in pieces answers as a plain string does."""
+    place, count = numbers.randrange(len(text) + 1), numbers.randrange(9)
+    most = min(place + count, len(text))
+    first = text.find(gap, place)
+    end = next((at for at in range(place, len(text)) if text[at] != gap), len(text))
+    got = copy.read(0, len(text) + 1), copy.read(place, count), copy.count("\n", place, place + count), copy.first_gap(place)
+    expect(got == (text, text[place : place + count], text[place : place + count].count("\n"), first if first >= 0 else None), f"{text!r}")
+    expect(copy.length == len(text) and copy.gaps == text.count(gap), f"{text!r}: {copy.length} runes, {copy.gaps} gaps")
+    if place < most:
+        expect(copy.end_of_gap(place, most) == min(end, most), f"{text!r}: a gap at {place} ends at {copy.end_of_gap(place, most)}")
+
+
+def check_text_in_pieces(folder):
+    """A text that is kept in pieces is a plain string, wherever these end, after changes alone and many at once."""
+    from unittest import mock
+
+    from terminal.text import text_copy
+    from terminal.text.texts import GAP
+
+    for seed in range(200):
+        numbers, copy, text = random.Random(seed), text_copy.TextCopy(), ""
+        with mock.patch.multiple(text_copy, PIECE=numbers.choice((4, 9)), LEAST=numbers.choice((1, 3))):
+            for _ in range(50):
+                start = numbers.randrange(len(text) + 1)
+                end = min(len(text), start + numbers.choice((0, 1, 3, 20)))
+                came = "".join(numbers.choice("ab\n" + GAP) for _ in range(numbers.choice((0, 1, 5, 30))))
+                gone = copy.replace(start, end, came)
+                expect(gone == text[start:end], f"seed {seed}: {gone!r} goes")
+                text = text[:start] + came + text[end:]
+                rows, wanted = some_rows(numbers, text)
+                gone = copy.replace_each(rows)
+                expect(gone == [text[place : place + count] for place, count, _ in rows], f"seed {seed}: {gone} goes, of {rows}")
+                text = wanted
+                expect_as_a_string(numbers, copy, text, GAP)
