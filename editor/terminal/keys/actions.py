@@ -8,11 +8,12 @@ from .bindings import Paste, Text
 from ..view.menus import Help
 from .motions import Targets
 from .movement import Moves
-from ..text.texts import COMMAND, GAP, MOST_RUNES, Changes
+from ..text.texts import COMMAND, GAP, MOST_RUNES, Change, Changes
 from ..view.windows import Window
 
 MOST_IN_MENU = 2_000  # files
 LEAST_ROWS = 4  # rows of the least window, with its title
+MOST_UNDER_A_LOCK = 2_000  # changes that one key makes while their file is locked
 TOO_LONG = f"the file would have more than {MOST_RUNES:,} characters"
 
 
@@ -409,9 +410,18 @@ class Actions(Commands, Moves):
         blanks = [0 if came else window.targets.indent_of(line) for line in lines]
         if not self._has_room(window.dot[1] - window.dot[0] + len(came) * len(lines)):
             return
+        if self._waits_for_many(len(lines)):
+            return
         self.log.begin(window.tag)
-        for line, gone in zip(reversed(lines), reversed(blanks)):
-            self.texts.edit(window.tag, line, line + gone, came)
+        each = (Change(window.tag, line, window.read(line, gone), came) for line, gone in zip(reversed(lines), reversed(blanks)))
+        self.texts.edit_each(window.tag, [change for change in each if change.gone or came])
+
+    def _waits_for_many(self, count: int) -> bool:
+        """Whether so many changes wait until nothing locks their file: of those that wait each costs the more the more do."""
+        waits = count > MOST_UNDER_A_LOCK and self.terminal.locked(self.focus.tag) and not self.is_lost
+        if waits:
+            self.act_again("waits for the host")
+        return waits
 
     def do_unindent(self) -> None:
         if self.focus is not self.command:
@@ -434,12 +444,12 @@ class Actions(Commands, Moves):
         question = f"{count} characters of what goes are not loaded: {redo} can't bring them again. {undo} again goes on"
         if count and not self.is_alone and self.terminal.first_gap(tag) is not None:
             self.load_all(tag, 0, self.focus.length, f"what goes is loaded, so that {redo} can bring it again")
-        elif count == 0 or self.is_sure(question):
+        elif (count == 0 or self.is_sure(question)) and not self._waits_for_many(len(step.stand)):
             self.log.back(tag)
 
     def do_redo(self) -> None:
         step = self.log.last(self.log.future, self.focus.tag)
-        if self._can_turn(step, step and step.lacks_again, "nothing was taken back"):
+        if self._can_turn(step, step and step.lacks_again, "nothing was taken back") and not self._waits_for_many(len(step.went)):
             self.log.again(self.focus.tag)
 
     def _can_turn(self, step, lacks, nothing: str) -> bool:

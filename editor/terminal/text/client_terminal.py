@@ -10,6 +10,7 @@ from .texts import COMMAND, GAP, MOST_RUNES, MOST_TYPED, Change, Changes
 from sulgrevad import Client, ClientEvent, ClientEventKind, Dropped, EditRefused, EventKind, FileState, Kind, Replacement, SamError
 from sulgrevad import ShownEdit, Splice, SpliceKind, Status, Step, TerminalDid, TerminalState, TooMany, Waiting
 
+MOST_WAITING = 64  # edits of a free file that wait together: each costs the more the more wait
 NAMING = (Kind.HNEWNAME, Kind.HMOVNAME, Kind.HDELNAME)  # frames that change a name
 
 WENT, FILLED = int(SpliceKind.WENT), int(SpliceKind.FILLED)
@@ -52,6 +53,7 @@ class ClientTerminal:
         self.give_back: Callable[[Dropped], None] = lambda dropped: None  # runes for which the host left no room
         self.forget_changes: Callable[[int], None] = lambda tag: None  # of a file: memory was out for what it had
         self.deeds = 0  # how often something was done
+        self.breaks = 0  # how often nobody knew what was made of a text
         self.has_begun = False  # the host's stream has
         self.loads: Dict[int, int] = {}  # how many runes were asked for of files that are locked since
         self._copies: Dict[int, TextCopy] = {}
@@ -158,8 +160,13 @@ class ClientTerminal:
                 del self._copies[tag]
             else:
                 self._copies[tag] = TextCopy()
-            self.forget_changes(tag)
-            self.touch(tag)
+            self._forget_text(tag)
+
+    def _forget_text(self, tag: int) -> None:
+        """Nobody knows how a text has become what it is."""
+        self.breaks += 1
+        self.forget_changes(tag)
+        self.touch(tag)
 
     def _forget(self) -> None:
         """Something was done."""
@@ -358,14 +365,16 @@ class ClientTerminal:
 
     def edit_each(self, tag: int, replacements: List[Replacement]) -> Iterator[int]:
         """The same of several, each at places of what those before have left. Yields how many more were made, and ends before one that is
-        refused."""
-        made = 0
+        refused. Those of a free file act as they are made."""
+        made, is_free = 0, self.file(tag).is_free and not self.is_asking  # so nothing else moves a place meanwhile
         while made < len(replacements):
-            more = self._edit_each(tag, replacements[made:])
+            more = self._edit_each(tag, replacements[made : made + MOST_WAITING])
             if more == 0 and self.edit(tag, *replacements[made]) is None:
                 return
             made += max(1, more)
             yield max(1, more)
+            if is_free:
+                self.act()
 
     def _edit_each(self, tag: int, replacements: List[Replacement]) -> int:
         """The same by one call. Returns how many were made, 0 where the first one is refused."""
@@ -395,7 +404,7 @@ class ClientTerminal:
             self.act()
             self._edit(tag, start, start, came)
         except (SamError, MemoryError):
-            self.forget_changes(tag)
+            self._forget_text(tag)
             self.give_back(Dropped(tag, start, len(gone), gone))
             raise
         return gone

@@ -150,6 +150,16 @@ class Texts:
             self.select(tag, start + len(runes), start + len(runes))
         self.left = ""
 
+    def edit_each(self, tag: int, changes: List[Change]) -> None:
+        """Makes changes, each at places of what those before have left, until one is refused."""
+        made, breaks = 0, self.terminal.breaks
+        try:
+            for more in self.terminal.edit_each(tag, [(place, place + len(gone), came) for _, place, gone, came in changes]):
+                made += more
+        finally:
+            if made and breaks == self.terminal.breaks:  # else nobody knows what was made
+                self.tell(Changes(changes[:made]))
+
     def edit(self, tag: int, start: int, end: int, came: str) -> bool:
         """Puts runes in the place of others, wherever the dot is. Returns whether that was not refused."""
         gone = self.terminal.edit(tag, start, end, came)

@@ -7,7 +7,6 @@ from .texts import GAP, Change, Changes, Run, Texts, runs
 
 MOST_STEPS = 10_000  # steps that are kept of a file
 MOST_TYPED = 80  # runes that are taken back at once, of those typed one after the other
-MOST_WAITING = 64  # edits of a step that wait together: each costs the more the more wait
 
 
 class Step:
@@ -101,10 +100,10 @@ def _filled(text: str, known: str) -> str:
 
 
 def _together(each: Iterator[Run]) -> Iterator[List[Run]]:
-    """Runs in lists that may be made by one call. One of which not all is known that goes is alone."""
+    """Runs in lists that may be made together. One of which not all is known that goes is alone."""
     together: List[Run] = []
     for run in each:
-        if together and (not run.is_known or not together[0].is_known or len(together) == MOST_WAITING):
+        if together and (not run.is_known or not together[0].is_known):
             yield together
             together = []
         together.append(run)
@@ -177,7 +176,6 @@ class Undo:
         """The file is gone, or what it had before is not known."""
         for steps in (self.past, self.future, self._halves):
             steps.pop(tag, None)
-        self._turned = None if self._turned == tag else self._turned
 
     def last(self, steps: Dict[int, List[Step]], tag: int) -> Optional[Step]:
         """The step of a file that comes next, of those done or of those taken back. One that is taken back in part is both."""
@@ -216,8 +214,7 @@ class Undo:
     def _turn(self, tag: int, step: Step, changes: List[Change], sign: int) -> None:
         """Makes changes of a file, which take back what is left of a step; or make it again, where the sign is -1. Out of memory some of
         them are made."""
-        made, self._turned = 0, tag
-        is_free = self.terminal.file(tag).is_free and not self.terminal.is_asking  # so nothing else moves a place meanwhile
+        made, breaks, self._turned = 0, self.terminal.breaks, tag
         try:
             for together in _together(runs(changes)):
                 if not together[0].is_known:
@@ -228,15 +225,14 @@ class Undo:
                     del counts[:count]
                 if counts:
                     return
-                if is_free:
-                    self.terminal.act()
             caret = changes[-1].place + len(changes[-1].came)
             self.terminal.select(tag, caret, caret)
         finally:
-            if self._turned == tag:  # else nobody knows what was made
+            if breaks == self.terminal.breaks:  # else nobody knows what was made
                 if made:
                     self.texts.tell(Changes(changes[:made]))
                 self._end(tag, step, step.turned + sign * made)
+            self._turned = None
 
     def _fill(self, step: Step, changes: List[Change], made: int, sign: int) -> None:
         """Fills what goes with the next change, as far as it is loaded by now. What makes that again has to know it."""
@@ -249,7 +245,7 @@ class Undo:
 
     def _end(self, tag: int, step: Step, turned: int) -> None:
         """A step is turned, or as much of it as memory was there for."""
-        self._turned, step.turned, step.kind = None, turned, ""
+        step.turned, step.kind = turned, ""
         for steps in (self.past, self.future):
             if steps.get(tag) and steps[tag][-1] is step:
                 steps[tag].pop()

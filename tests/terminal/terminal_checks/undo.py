@@ -344,6 +344,26 @@ def check_undo_that_is_broken_off(folder):
         expect(pair.host.text(1) == there and told in editor.message, f"{name}: it tells {editor.message!r}")
 
 
+def check_many_changes_under_a_lock(folder):
+    """A key that changes thousands of places waits while the file is locked; one that changes some acts at once."""
+    for lines, waits in ((3_000, True), (100, False)):
+        first = "abc\n" * lines
+        pair, editor, key, text = opened(first)
+        pair.terminal.load(1, 0, len(first))
+        pair.press(key("Esc"), text(",x/a/c/d/\n"), key("Esc"))
+        for name, wanted in (("^Z", first), ("^R", first.replace("a", "d")), ("Tab", "\tdbc\n" * lines)):
+            if name == "Tab":
+                pair.press(key("^A"))
+            editor.take(key("^W"))
+            expect(pair.terminal.locked(1), "this test is wrong: the file is not locked")
+            editor.take(text("\t") if name == "Tab" else key(name))
+            expect(bool(editor.deferred) == waits, f"{name} of {lines} lines waits: {bool(editor.deferred)}, {editor.message!r}")
+            pair.finish()
+            got = pair.host.text(1)
+            expect(got == wanted, f"{name} of {lines} lines: the text is {got[:40]!r}")
+        pair.check()
+
+
 def check_undo_of_the_longest_text(folder):
     """A text of the greatest length that isn't loaded goes at once, in a round trip, and comes back."""
     first = "line\n" * 200_000
