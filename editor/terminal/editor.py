@@ -179,7 +179,7 @@ class Editor(WindowLayout, KeyQueue, Actions):
         elif told.kind in ANSWERS:
             if told.kind == NoteKind.ANEW:
                 self.session_files.hide(told.number)
-                if self.has_begun:
+                if self.has_begun and told.number in self.session_files.hidden:
                     self.left.note_hidden([told.number])
             if not self.reloading.meet(told):
                 self.joining.meet(told)

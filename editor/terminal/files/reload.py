@@ -82,7 +82,7 @@ class Reload:
         """An answer of the host. Returns whether it is of a file that is read anew."""
         if self._tag is None or note.request != self._request or note.kind not in (NoteKind.ANEW, NoteKind.REFUSED):
             return False
-        if note.kind == NoteKind.ANEW:
+        if note.kind == NoteKind.ANEW and note.number in self.editor.session_files.hidden:
             self._anew = note.number
         else:
             self.editor.notes.keep(1, f"{self.editor.name(self._tag)} is not reloaded: {note.text}")
