@@ -16,9 +16,7 @@
 #include "disk/file_writer.h"
 #include "disk/paths.h"
 #include "disk/saves.h"
-#include "journal/journal.h"
 #include "journal/journal_records.h"
-#include "journal/replay.h"
 #include "limits.h"
 #include "log.h"
 #include "net/event_loop.h"
@@ -40,8 +38,10 @@ int take_text(struct session *session, uint16_t tag)
     uint32_t runes = 1;
     uint32_t place = 0;
 
+    if (is_closing(session, tag))
+        return sam_server_closed_text(session->server, text->bytes, MOST_BYTES, &text->len) == SAM_OK ? 0 : ENOENT;
     for (text->len = 0; runes > 0; text->len += bytes) {
-        uint32_t code = sam_host_text(&session->host, tag, place, text->bytes + text->len, MOST_BYTES - text->len, &bytes, &runes);
+        uint32_t code = sam_server_text(session->server, tag, place, text->bytes + text->len, MOST_BYTES - text->len, &bytes, &runes);
         if (code != SAM_OK)
             return code == SAM_NO_MEMORY ? ENOMEM : ENOENT;
         place += runes;
@@ -147,6 +147,7 @@ static void free_closed(struct closed *closed)
 static bool save_closed(struct session *session, bool is_last)
 {
     struct closed **next = &session->closed;
+    size_t place = 0;
     bool all = true;
 
     while (*next != NULL) {
@@ -163,13 +164,28 @@ static bool save_closed(struct session *session, bool is_last)
         all &= error == 0;
         free(copy.path);
         if (error == 0 || is_last) {
+            record_freed(session, place);
             *next = closed->next;
             free_closed(closed);
         } else {
             next = &closed->next;
+            place++;
         }
     }
     return all;
+}
+
+void drop_closed(struct session *session, uint64_t place)
+{
+    struct closed **next = &session->closed;
+
+    while (*next != NULL && place-- > 0)
+        next = &(*next)->next;
+    struct closed *found = *next;
+    if (found == NULL)
+        return;
+    *next = found->next;
+    free_closed(found);
 }
 
 /* ---- Changed texts ---- */
@@ -178,16 +194,18 @@ static bool has_file(struct session *session, size_t tag)
 {
     bool has = false;
 
-    return sam_host_has_file(&session->host, (uint16_t)tag, &has) == SAM_OK && has;
+    return sam_server_has_file(session->server, (uint16_t)tag, &has) == SAM_OK && has;
 }
 
 bool is_changed(struct session *session, uint16_t tag)
 {
     bool is_dirty = true;
 
-    if (tag == 0 || is_hidden(session, tag) || !has_file(session, tag))
+    if (tag == 0 || is_hidden(session, tag))
         return false;
-    return sam_host_is_dirty(&session->host, tag, &is_dirty) != SAM_OK || is_dirty || session->documents[tag].is_unmarked;
+    if (!has_file(session, tag))
+        return is_closing(session, tag);
+    return sam_server_is_dirty(session->server, tag, &is_dirty) != SAM_OK || is_dirty || session->documents[tag].is_unmarked;
 }
 
 bool stands_in_its_file(struct session *session, uint16_t tag)
@@ -283,31 +301,42 @@ static int save_for_good(struct session *session, uint16_t tag, const char *name
     return error;
 }
 
-/* Holds a text that is tried again later, and at the end. */
-static void hold_closed(struct session *session, uint16_t tag, const char *name)
+bool add_closed(struct session *session, uint16_t tag, const char *name, const struct text *text)
 {
-    int error = take_text(session, tag);
-    struct closed *closed = malloc(sizeof *closed);
-    uint8_t *bytes = malloc(session->text.len + 1);
+    struct closed *closed = malloc(sizeof *closed), **last = &session->closed;
+    uint8_t *bytes = malloc(text->len + 1);
     char *own = formatted("%s", name);
 
-    if (error != 0 || closed == NULL || bytes == NULL || own == NULL) {
+    if (closed == NULL || bytes == NULL || own == NULL) {
         free(closed);
         free(bytes);
         free(own);
-        tell_lost(tag, name, ENOMEM);
-        session->is_lost = true;
+        return false;
+    }
+    memcpy(bytes, text->bytes, text->len);
+    *closed = (struct closed){.tag = tag, .name = own, .text = {bytes, text->len}};
+    while (*last != NULL)
+        last = &(*last)->next;
+    *last = closed;
+    return true;
+}
+
+/* Holds a text that is tried again later, and at the end. */
+static void hold_closed(struct session *session, uint16_t tag, const char *name)
+{
+    if (take_text(session, tag) == 0 && add_closed(session, tag, name, &session->text)) {
+        struct closed *last = session->closed;
+        while (last->next != NULL)
+            last = last->next;
+        record_held(session, last);
         return;
     }
-    memcpy(bytes, session->text.bytes, session->text.len);
-    *closed = (struct closed){.next = session->closed, .tag = tag, .name = own, .text = {bytes, session->text.len}};
-    session->closed = closed;
+    tell_lost(tag, name, ENOMEM);
+    session->is_lost = true;
 }
 
 void save_closing(struct session *session, uint16_t tag)
 {
-    if (is_done_already(session, DOING_CLOSE, tag))
-        return;
     report_closing(session, tag);
     char *name = name_of(session, tag);
     const char *known = name == NULL ? "a file" : name;
@@ -319,7 +348,7 @@ void save_closing(struct session *session, uint16_t tag)
         hold_closed(session, tag, known);
     }
     free(name);
-    record_done(session, DOING_CLOSE, tag, NULL, error != 0);
+    record_document(session, tag);
 }
 
 void free_document(struct document *document)
@@ -338,7 +367,7 @@ void free_document(struct document *document)
 
 void forget_closed(struct session *session, uint16_t tag)
 {
-    if (!has_file(session, tag))
+    if (!has_file(session, tag) && !is_closing(session, tag))
         free_document(&session->documents[tag]);
 }
 

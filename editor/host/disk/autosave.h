@@ -64,9 +64,13 @@ bool save_changed(struct session *session);
 /* Whether something that failed is to be tried once more: where memory is out, some times, and after a while. */
 bool is_tried_again(int error, int *tries);
 
-/* Before the host closes a file: saves its text if it is changed. After it: forgets the document, if the host did close it. */
+/* While the server lends the text of a file that was closed: saves it. Behind that: forgets the document of a file that is gone. */
 void save_closing(struct session *session, uint16_t tag);
 void forget_closed(struct session *session, uint16_t tag);
+
+/* Holds the text of a closed file, which could not be saved; and lets the one at a place of the list go. */
+bool add_closed(struct session *session, uint16_t tag, const char *name, const struct text *text);
+void drop_closed(struct session *session, uint64_t place);
 
 /* Frees what a document has. Its copy stays on disk. */
 void free_document(struct document *document);

@@ -1,7 +1,4 @@
 /* cut_backup.c: what was cut last and stands nowhere else.
- *
- * While a terminal keeps text for undo, what the user has cut stands at the end of the file for undo, and the snarf buffer has another
- * text.
  */
 #define _XOPEN_SOURCE 700
 #include <errno.h>
@@ -15,7 +12,6 @@
 #include "disk/paths.h"
 #include "disk/saves.h"
 #include "limits.h"
-#include "net/event_loop.h"
 #include "session/messages.h"
 #include "session/session.h"
 #include "sulgrevad.h"
@@ -25,80 +21,26 @@
 bool make_cut(struct cut *cut)
 {
     cut->snarf.bytes = malloc(MOST_BYTES);
-    cut->moved.bytes = malloc(MOST_BYTES);
-    return cut->snarf.bytes != NULL && cut->moved.bytes != NULL;
+    return cut->snarf.bytes != NULL;
 }
 
 void free_cut(struct cut *cut)
 {
     free(cut->snarf.bytes);
-    free(cut->moved.bytes);
     free(cut->aside.path);
 }
 
-/* ---- What fills the snarf buffer ---- */
-
-/* Whether a rune begins with a byte. */
-static bool is_first(uint8_t byte)
-{
-    return (byte & 0xC0) != 0x80;
-}
-
-static uint32_t count_runes(const struct text *text)
-{
-    uint32_t runes = 0;
-
-    for (size_t at = 0; at < text->len; at++)
-        runes += is_first(text->bytes[at]);
-    return runes;
-}
-
-/* Takes what the host's snarf buffer has, where that is not taken yet. */
-static const struct text *take_snarf(struct session *session)
+/* What the user has cut or copied last: what the host's snarf buffer has. */
+static const struct text *text_of(struct session *session)
 {
     struct text *text = &session->cut.snarf;
     size_t bytes = 0;
     uint32_t runes = 1, place = 0;
 
-    if (!session->cut.is_stale)
-        return text;
-    session->cut.is_stale = false;
     for (text->len = 0; runes > 0; text->len += bytes, place += runes)
-        if (sam_host_snarf(&session->host, place, text->bytes + text->len, MOST_BYTES - text->len, &bytes, &runes) != SAM_OK)
+        if (sam_server_snarf(session->server, place, text->bytes + text->len, MOST_BYTES - text->len, &bytes, &runes) != SAM_OK)
             break;
     return text;
-}
-
-void track_paste(struct session *session, uint16_t tag)
-{
-    struct cut *cut = &session->cut;
-    uint32_t len = 0;
-
-    if (tag == 0 || tag != session->vault || cut->is_moved)
-        return;
-    const struct text *snarf = take_snarf(session);
-    if (sam_host_len(&session->host, tag, &len) != SAM_OK || len + count_runes(snarf) > MOST_RUNES)
-        return;
-    memcpy(cut->moved.bytes, snarf->bytes, snarf->len);
-    cut->moved.len = snarf->len;
-    cut->is_moved = true;
-}
-
-void track_snarf(struct session *session, uint8_t kind, uint16_t tag)
-{
-    struct cut *cut = &session->cut;
-
-    cut->is_stale |= kind == KIND_SNARF || kind == KIND_SET_SNARF;
-    if (kind == KIND_SET_SNARF || (kind == KIND_CUT && tag != 0 && tag == session->vault))
-        cut->is_moved = false;
-}
-
-/* ---- Saving ---- */
-
-/* What the user has cut or copied last. */
-static const struct text *text_of(struct session *session)
-{
-    return session->cut.is_moved ? &session->cut.moved : take_snarf(session);
 }
 
 /* Whether a text stands in another. */

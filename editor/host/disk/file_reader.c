@@ -87,8 +87,7 @@ int add_text(struct session *session, const char *path, const struct text *text,
     if (error == 0)
         error = document.shown == NULL ? ENOMEM : remember_content(&document, end, content);
     if (error == 0) /* from here on nothing takes memory */
-        error = error_of_status(
-            sam_host_add_file(&session->host, (const uint8_t *)document.shown, strlen(document.shown), text->bytes, text->len, tag));
+        error = error_of_status(add_to_server(session, document.shown, text, tag));
     if (error == 0)
         session->documents[*tag] = document;
     else
@@ -252,7 +251,7 @@ void tell_times(struct session *session)
 int add_vault(struct session *session)
 {
     const char *name = NAME_FOR_UNDO;
-    uint32_t code = sam_host_add_file(&session->host, (const uint8_t *)name, strlen(name), (const uint8_t *)"", 0, &session->vault);
+    sam_status code = add_to_server(session, name, &(struct text){0}, &session->vault);
 
     if (code == SAM_OK)
         session->documents[session->vault].purpose = FOR_UNDO;

@@ -88,17 +88,16 @@ static void look_at(struct session *session, uint16_t tag, const char *path)
 
 static bool is_watched(struct session *session, size_t tag)
 {
-    bool has = false;
+    bool is_open = false;
 
-    return session->documents[tag].is_open && !is_hidden(session, tag) &&
-           sam_host_has_file(&session->host, (uint16_t)tag, &has) == SAM_OK && has;
+    return !is_hidden(session, tag) && sam_server_is_open(session->server, (uint16_t)tag, &is_open) == SAM_OK && is_open;
 }
 
 int64_t watch_is_due_in(const struct session *session)
 {
     int64_t left = session->watched_at + PERIOD - now();
 
-    if (!session->has_open || session->stay->line < 0)
+    if (!session->stay->is_named || session->stay->line < 0 || session->stay->has_ended)
         return -1;
     return left > 0 ? left : 0;
 }
@@ -118,11 +117,6 @@ void watch_files(struct session *session)
         session->watched_at = now();
 }
 
-void begin_watching(struct session *session, uint16_t tag)
-{
-    session->documents[tag].is_open = session->has_open = true;
-}
-
 /* ---- Reading a file anew ---- */
 
 /* Whether a number is the tag of a file, other than the command file. */
@@ -130,7 +124,7 @@ static bool is_tag(struct session *session, uint64_t tag)
 {
     bool has = false;
 
-    return tag > 0 && tag < count_tags(session) && sam_host_has_file(&session->host, (uint16_t)tag, &has) == SAM_OK && has;
+    return tag > 0 && tag < count_tags(session) && sam_server_has_file(session->server, (uint16_t)tag, &has) == SAM_OK && has;
 }
 
 /* Adds what stands at a path as a file of its own. */
@@ -141,7 +135,7 @@ static int add_anew(struct session *session, uint16_t tag, const char *end, cons
     uint32_t code = SAM_NO_MEMORY;
 
     if (name != NULL && remember_content(&document, end, content_of(text)) == 0)
-        code = sam_host_add_file(&session->host, (const uint8_t *)name, strlen(name), text->bytes, text->len, anew);
+        code = add_to_server(session, name, text, anew);
     if (code == SAM_OK)
         session->documents[*anew] = document;
     else
@@ -179,7 +173,7 @@ bool reload_file(struct session *session, uint32_t request, uint16_t tag)
         return false;
     if (error != 0)
         return refuse(session, request, error);
-    record_file(session, anew);
+    record_document(session, anew);
     return put_message(session, &(struct event){.kind = SAM_NOTE_ANEW, .request = request, .number = anew}, NULL);
 }
 

@@ -23,9 +23,6 @@ struct watch {
     int gone; /* at how many looks the file was gone since it was there last: the second is told */
 };
 
-/* The terminal has opened a file: it is watched from now on. */
-void begin_watching(struct session *session, uint16_t tag);
-
 /* In how many milliseconds files are to be looked at; -1 where none is watched, or nobody is there to be told. */
 int64_t watch_is_due_in(const struct session *session);
 

@@ -129,7 +129,7 @@ static void offer(struct search *search, size_t tag, const struct left *left)
 
     search->is_short |= path == NULL || name == NULL;
     if (left->is_read && path != NULL && name != NULL && search->offered < MOST_OFFERED &&
-        sam_host_add_file(&session->host, (const uint8_t *)name, strlen(name), text->bytes, text->len, &own) == SAM_OK) {
+        add_to_server(session, name, text, &own) == SAM_OK) {
         search->offered++;
         session->documents[own] = (struct document){.path = path, .shown = name, .purpose = LEFT_OVER};
         (void)remember_content(&session->documents[own], path, content_of(text)); /* where memory is out it can't be dropped */

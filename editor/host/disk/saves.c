@@ -15,9 +15,7 @@
 #include "disk/errors.h"
 #include "disk/file_writer.h"
 #include "disk/paths.h"
-#include "journal/journal.h"
 #include "journal/journal_records.h"
-#include "journal/replay.h"
 #include "limits.h"
 #include "session/dirty_marks.h"
 #include "session/document.h"
@@ -39,7 +37,9 @@ char *path_of(struct session *session, uint16_t tag, int *error)
     char name[NAME_ROOM + 1];
     size_t len = 0;
 
-    if (sam_host_name(&session->host, tag, (uint8_t *)name, NAME_ROOM, &len) != SAM_OK)
+    sam_status code = is_closing(session, tag) ? sam_server_closed_name(session->server, (uint8_t *)name, NAME_ROOM, &len)
+                                               : sam_server_name(session->server, tag, (uint8_t *)name, NAME_ROOM, &len);
+    if (code != SAM_OK)
         len = 0;
     name[len] = '\0';
     *error = len == 0 || strlen(name) != len ? NO_NAME : 0;
@@ -161,25 +161,23 @@ static struct attempt put_text(struct session *session, uint16_t tag, const char
 }
 
 /* Saves a text that was not written, and answers why it was not, and where it is. */
-static struct message *answer_unwritten(struct session *session, uint16_t tag, const char *path, int why)
+static void answer_unwritten(struct session *session, uint16_t tag, const char *path, int why)
 {
     enum place place;
     int error = secure(session, tag, &place);
     char *unnamed = path == NULL ? formatted("file %u", (unsigned)tag) : NULL;
     const char *name = path != NULL ? path : unnamed != NULL ? unnamed : "a file";
     struct event event = {.kind = SAM_NOTE_NOT_SAVED, .code = code_of(why), .tag = tag, .path = path};
-    struct message *answer;
 
     if (error == 0) /* the text is on the disk, if it is not in the file itself */
         event.copy = place == ASIDE ? session->documents[tag].aside.path : path;
     if (error != 0)
-        answer = answer_write(session, event, "not written: %s: %s; its text could not be saved: %s", name, cause(why), cause(error));
+        answer_write(session, event, "not written: %s: %s; its text could not be saved: %s", name, cause(why), cause(error));
     else if (place == ASIDE)
-        answer = answer_write(session, event, "not written: %s: %s; its text is in %s", name, cause(why), event.copy);
+        answer_write(session, event, "not written: %s: %s; its text is in %s", name, cause(why), event.copy);
     else
-        answer = answer_write(session, event, "not written: %s: %s; it has this text already", name, cause(why));
+        answer_write(session, event, "not written: %s: %s; it has this text already", name, cause(why));
     free(unnamed);
-    return answer;
 }
 
 void report_taken(struct session *session)
@@ -191,24 +189,26 @@ void report_taken(struct session *session)
         if (!session->documents[tag].is_unmarked)
             continue;
         char *path = path_of(session, (uint16_t)tag, &error);
-        put_answer(session, answer_unwritten(session, (uint16_t)tag, path, NOT_WRITTEN));
+        answer_unwritten(session, (uint16_t)tag, path, NOT_WRITTEN);
         free(path);
     }
 }
 
 /* Answers that a file is written: where what another program had put there is now; or where its terminal, when it took the session over,
  * was told that it is not, that it is. */
-static struct message *answer_written(struct session *session, uint16_t tag, const char *path, const char *theirs)
+static void answer_written(struct session *session, uint16_t tag, const char *path, const char *theirs)
 {
     struct document *document = &session->documents[tag];
     struct event event = {.kind = SAM_NOTE_SAVED, .tag = tag, .path = path, .copy = theirs};
     bool was_taken = document->is_taken;
 
     document->is_taken = false;
-    if (theirs == NULL)
-        return answer_write(session, event, was_taken ? "%s is written" : "", path);
+    if (theirs == NULL) {
+        answer_write(session, event, was_taken ? "%s is written" : "", path);
+        return;
+    }
     event.code = SAM_NOTE_REPLACED;
-    return answer_write(session, event, "%s is replaced; what another program had written there is in %s", path, theirs);
+    answer_write(session, event, "%s is replaced; what another program had written there is in %s", path, theirs);
 }
 
 /* Whether the terminal drops a text that an earlier session saved: it writes it empty. */
@@ -216,11 +216,11 @@ static bool is_dropped(struct session *session, uint16_t tag)
 {
     uint32_t runes = 1;
 
-    return session->documents[tag].purpose == LEFT_OVER && sam_host_len(&session->host, tag, &runes) == SAM_OK && runes == 0;
+    return session->documents[tag].purpose == LEFT_OVER && sam_server_len(session->server, tag, &runes) == SAM_OK && runes == 0;
 }
 
 /* Removes such a text, unless it is another one by now. */
-static struct message *drop_left(struct session *session, uint16_t tag, const char *path)
+static void drop_left(struct session *session, uint16_t tag, const char *path)
 {
     struct document *document = &session->documents[tag];
     struct content found = content_at(path);
@@ -233,12 +233,14 @@ static struct message *drop_left(struct session *session, uint16_t tag, const ch
         error = IS_CHANGED;
     else if (found.kind != NOT_THERE && unlink(path) != 0)
         error = errno;
-    if (error == 0)
-        return answer_write(session, event, "");
+    if (error == 0) {
+        answer_write(session, event, "");
+        return;
+    }
     mark_dirty(session, tag);
     event.kind = SAM_NOTE_NOT_SAVED;
     event.code = code_of(error);
-    return answer_write(session, event, "%s is not dropped: %s", path, error == IS_CHANGED ? "it has changed since" : cause(error));
+    answer_write(session, event, "%s is not dropped: %s", path, error == IS_CHANGED ? "it has changed since" : cause(error));
 }
 
 /* Whether the text of a file was read anew, and its file has it still: then it is not written once more. */
@@ -253,46 +255,33 @@ static bool has_it_anew(struct session *session, uint16_t tag)
     return has_it;
 }
 
-/* Writes a file, and makes the answer of that. */
-static struct message *write_text(struct session *session, uint16_t tag)
+/* Writes a file, and answers. */
+static void write_text(struct session *session, uint16_t tag)
 {
     struct attempt attempt = {0};
     char *path = path_of(session, tag, &attempt.error);
-    struct message *answer;
 
     if (path != NULL && is_dropped(session, tag)) {
-        answer = drop_left(session, tag, path);
+        drop_left(session, tag, path);
     } else {
         if (path != NULL && !has_it_anew(session, tag))
             attempt = put_text(session, tag, path);
         session->documents[tag].is_unmarked = false;
-        if (attempt.error != 0)
+        if (attempt.error != 0) {
             mark_dirty(session, tag);
-        answer =
-            attempt.error != 0 ? answer_unwritten(session, tag, path, attempt.error) : answer_written(session, tag, path, attempt.theirs);
+            answer_unwritten(session, tag, path, attempt.error);
+        } else
+            answer_written(session, tag, path, attempt.theirs);
     }
     free(attempt.theirs);
     free(path);
-    return answer;
 }
 
-static void write_file(struct session *session, uint16_t tag)
+void write_file(struct session *session, uint16_t tag)
 {
-    if (is_done_already(session, DOING_WRITE, tag)) {
-        drop_request(&session->stay->messages, tag);
+    if (is_hidden(session, tag) && session->documents[tag].purpose != LEFT_OVER)
         return;
-    }
-    struct message *answer = write_text(session, tag);
-    record_done(session, DOING_WRITE, tag, answer, false);
-    put_answer(session, answer);
-}
-
-void write_files(struct session *session)
-{
-    uint16_t tag;
-
-    while (sam_host_next_written(&session->host, &tag) == SAM_OK) {
-        if (!is_hidden(session, tag) || session->documents[tag].purpose == LEFT_OVER)
-            write_file(session, tag);
-    }
+    write_text(session, tag);
+    record_document(session, tag);
+    record_copies(session);
 }

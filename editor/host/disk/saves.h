@@ -10,8 +10,8 @@ struct document;
 struct known;
 struct session;
 
-/* Writes the files that the terminal has said to write since it was asked last. */
-void write_files(struct session *session);
+/* Writes a file, as the terminal has said, unless it is hidden, and answers. */
+void write_file(struct session *session, uint16_t tag);
 
 /* Saves the texts aside that an earlier terminal has not written, and reports them. */
 void report_taken(struct session *session);

@@ -1,12 +1,12 @@
 /* journal.c: what a session that stays has done, in a file that only grows, so that another samhost can be the very same one.
  *
- * Its bytes are those of the library's journals (sulgrevad.h), whose clauses say what is read of them after a crash. The body of a record
- * begins with its step. Numbers have the highest byte first. A record is written once its step is done, and before anything that rests on
- * it goes out. The library's host and link are what these steps make of them, so nothing else has to be kept.
+ * Its bytes are those of the library's journals (sulgrevad.h), whose clauses say what is read of them after a crash. A record has what a
+ * turn made: records of the library's server, which alone decide what that is, and what samhost knows beside it. Numbers have the highest
+ * byte first.
  *
- * What is written survives the process. It is on the disk before anything is sent that rests on it, before a file is written, and after a
- * pause; so what a power cut takes nobody has heard of. Each record says how much was on the disk when it was made, and one is added after
- * each sync to say so: what is wrong before that is damage, and what is wrong behind it is torn.
+ * What the server took goes out once it is durable: the disk has it. So what a power cut takes nobody has heard of. Each record says how
+ * much was on the disk when it was made, and an empty one is added after each sync to say so: what is wrong before that is damage, and what
+ * is wrong behind it is torn.
  *
  * Where the file can't be written any more it loses its name, since one that lacks a step is of no use, and records are held in memory.
  * From time to time another file is tried: it gets what the old one had, and what is held, and then the name.
@@ -84,7 +84,8 @@ void close_journal(struct journal *journal)
     if (journal->is_held && journal->old >= 0)
         close(journal->old);
     free(journal->held.bytes);
-    *journal = (struct journal){.file = -1, .lost = journal->lost};
+    free(journal->turn.bytes);
+    *journal = (struct journal){.file = -1, .lost = journal->lost, .damaged_at = journal->damaged_at};
 }
 
 void hold_journal(struct session *session, int error)
@@ -112,26 +113,25 @@ static void end_journal(struct session *session, int error)
 }
 
 /* Writes the next record, of this body, or holds it. */
-static int write_record(struct journal *journal, uint8_t *body, size_t len)
+static int write_record(struct journal *journal, const uint8_t *body, size_t len)
 {
     sam_record_frame frame;
 
     if (len > MOST_BODY || sam_journal_frame(journal->random, journal->count, journal->durable, body, len, &frame) != SAM_OK)
         return EFBIG;
-    struct iovec parts[] = {{frame.front, sizeof frame.front}, {body, len}, {frame.back, sizeof frame.back}};
+    struct iovec parts[] = {{frame.front, sizeof frame.front}, {(uint8_t *)body, len}, {frame.back, sizeof frame.back}};
     int error = journal->is_held ? hold(&journal->held, parts, 3) : write_all(journal->file, parts, 3);
     if (error != 0)
         return error;
     journal->count++;
     journal->len += sizeof frame + len;
-    journal->is_unsynced = true;
     return 0;
 }
 
-static void put_record(struct session *session, uint8_t *body, size_t len)
+static void put_record(struct session *session, const uint8_t *body, size_t len)
 {
     struct journal *journal = &session->stay->journal;
-    int error = write_record(journal, body, len);
+    int error = takes_records(journal) ? write_record(journal, body, len) : 0;
 
     if (error != 0 && !journal->is_held) {
         hold_journal(session, error);
@@ -146,51 +146,74 @@ bool takes_records(const struct journal *journal)
     return journal->file >= 0 || journal->is_held;
 }
 
-void add_record(struct session *session, enum step step, const uint8_t *bytes, size_t len)
+void add_entry(struct session *session, enum entry kind, struct body *body)
 {
-    uint8_t body[1 + PIECE];
+    struct body *turn = &session->stay->journal.turn;
 
-    if (!takes_records(&session->stay->journal))
-        return;
-    body[0] = (uint8_t)step;
-    if (len > PIECE) {
-        end_journal(session, EFBIG);
-        return;
+    if (takes_records(&session->stay->journal)) {
+        if (kind == ENTRY_START)
+            add_raw(turn, &(uint8_t){ENTRY_START}, 1);
+        else
+            add_entry_head(turn, kind, body->len);
+        add_raw(turn, body->bytes, body->len);
+        if (body->is_short || turn->is_short)
+            end_journal(session, ENOMEM);
     }
-    if (len > 0)
-        memcpy(body + 1, bytes, len);
-    put_record(session, body, 1 + len);
+    free(body->bytes);
 }
 
-void add_body(struct session *session, enum step step, struct body *body)
+/* Takes records of the server into the next one. Returns how many. What there is no memory for stays with the server. */
+static size_t gather(struct session *session)
 {
-    if (!takes_records(&session->stay->journal)) {
-        free(body->bytes);
-        return;
+    struct body *turn = &session->stay->journal.turn;
+    size_t count = 0, len;
+
+    while (turn->len < MOST_IN_TURN && sam_server_record_len(session->server, &len) == SAM_OK) {
+        if (!has_room(turn, 9 + len)) {
+            turn->is_short = false;
+            break;
+        }
+        add_entry_head(turn, ENTRY_SERVER, len);
+        if (sam_server_next_record(session->server, turn->bytes + turn->len, len, &len) != SAM_OK)
+            break; /* can't be: there is room */
+        turn->len += len;
+        count++;
     }
-    if (has_room(body, 1) && !body->is_short) {
-        memmove(body->bytes + 1, body->bytes, body->len);
-        body->bytes[0] = (uint8_t)step;
-        put_record(session, body->bytes, 1 + body->len);
-    } else
-        end_journal(session, ENOMEM);
-    free(body->bytes);
+    return count;
 }
 
 void sync_journal(struct session *session)
 {
     struct journal *journal = &session->stay->journal;
 
-    if (journal->file < 0 || !journal->is_unsynced)
+    if (journal->file < 0)
         return;
-    journal->is_unsynced = false;
     if (fdatasync(journal->file) != 0) {
         hold_journal(session, errno);
         return;
     }
     journal->durable = journal->len;
-    add_record(session, STEP_SYNCED, NULL, 0);
-    journal->is_unsynced = false; /* that may be missing after a power cut */
+    put_record(session, NULL, 0); /* that may be missing after a power cut */
+}
+
+void settle(struct session *session)
+{
+    struct body *turn = &session->stay->journal.turn;
+    size_t count, all = 0;
+    bool has_some = turn->len > 0;
+
+    do {
+        count = gather(session);
+        has_some |= count > 0;
+        if (turn->len > 0)
+            put_record(session, turn->bytes, turn->len);
+        turn->len = 0;
+        all += count;
+    } while (count > 0);
+    if (!has_some)
+        return;
+    sync_journal(session);
+    (void)!sam_server_durable(session->server, all); /* where it can't be on the disk the terminal is told */
 }
 
 /* ---- The file ---- */
@@ -201,7 +224,7 @@ void make_journal(struct session *session, const char *name)
     uint8_t head[SAM_JOURNAL_HEAD_BYTES];
     struct iovec part = {head, sizeof head}, again = part;
 
-    *journal = (struct journal){.file = -1, .is_unsynced = true, .len = sizeof head};
+    *journal = (struct journal){.file = -1, .len = sizeof head};
     if (getrandom(&journal->random, sizeof journal->random, 0) != sizeof journal->random ||
         sam_journal_head(journal->random, head) != SAM_OK) {
         end_journal(session, errno);
@@ -258,7 +281,7 @@ int open_journal(struct stay *stay, struct text *all, sam_status *head)
     *head = SAM_JOURNAL_SHORT;
     if (file < 0)
         return errno;
-    stay->journal = (struct journal){.file = file, .is_unsynced = true}; /* who wrote it may have been killed before */
+    stay->journal = (struct journal){.file = file};
     int error = map_records(file, all, &status);
     if (error == 0)
         *head = read_head(all, &stay->journal.random);
@@ -278,11 +301,7 @@ bool next_record(const struct text *all, uint64_t random, struct record_place *p
 
     if (sam_journal_next(all->bytes, len, place->at, random, place->number, &found) != SAM_OK)
         return false;
-    const uint8_t *body = all->bytes + found.body;
-    bool is_step = found.len > 0 && body[0] >= STEP_START && body[0] <= LAST_STEP;
-    *record = (struct record){.is_wrong = !is_step};
-    if (is_step)
-        *record = (struct record){.step = (enum step)body[0], .body = body + 1, .len = found.len - 1};
+    *record = (struct record){.body = all->bytes + found.body, .len = found.len};
     *place = (struct record_place){found.next, place->number + 1, found.durable};
     return true;
 }
@@ -396,10 +415,12 @@ bool begin_journal_anew(struct session *session)
     }
     sync_home(home);
     struct journal anew = {.file = file, .random = journal->random, .count = journal->count, .len = journal->len, .durable = journal->len};
+    struct body turn = journal->turn;
+    journal->turn = (struct body){0};
     close_journal(journal);
+    anew.turn = turn;
     *journal = anew;
-    add_record(session, STEP_SYNCED, NULL, 0);
-    journal->is_unsynced = false; /* that may be missing after a power cut */
+    put_record(session, NULL, 0); /* that may be missing after a power cut */
     return journal->file >= 0;
 }
 
@@ -438,7 +459,7 @@ bool is_left_alone(const struct home *home)
     int file = openat(home->folder, JOURNAL, O_RDONLY | O_NOFOLLOW | O_CLOEXEC);
 
     bool is_read = file >= 0 && map_records(file, &all, &status) == 0 && read_head(&all, &random) == SAM_OK;
-    if (is_read && next_record(&all, random, &first, &record) && record.step == STEP_START) {
+    if (is_read && next_record(&all, random, &first, &record) && take_kind(&record) == ENTRY_START) {
         free(take_words(&record)); /* its folder; the mode of new files and the file for undo follow */
         (void)take_number(&record);
         (void)take_number(&record);

@@ -16,19 +16,17 @@ struct text;
 
 struct journal {
     int file;            /* -1 where there is none */
-    bool is_unsynced;    /* something may not be on the disk */
     uint64_t random;     /* of the file */
     uint64_t count;      /* its records */
     uint64_t len;        /* its bytes */
     uint64_t durable;    /* how many of these are on the disk */
     uint64_t damaged_at; /* where its whole records end before what was on the disk */
+    struct body turn;    /* the entries of the next record */
     bool is_held;        /* the file can't be written: records wait in memory until another one takes all of them */
     int old;             /* while it is held, the file that has what stands before these; it has no name any more. -1 where there is none */
     struct body held;    /* these records; before them the head, where there is no old file */
     int64_t due, pause;  /* when another file is tried, and in how many milliseconds once more if that can't be */
     int lost;            /* why it can't be written, which is still to be told; else 0 */
-    bool has_edits;      /* the host has taken edits since the journal had the hash of an answer last */
-    size_t whole;        /* bytes of the answers that it has whole since then */
 };
 
 /* The place of a record in a journal, its number, and how much was on the disk when the one before it was made. */
@@ -74,9 +72,13 @@ void go_on_behind(struct journal *journal, const struct record_place *end);
 /* Whether records are written, or held. */
 bool takes_records(const struct journal *journal);
 
-/* Adds a record. Where it can't be written it is held, and the terminal is told so. */
-void add_record(struct session *session, enum step step, const uint8_t *bytes, size_t len);
-void add_body(struct session *session, enum step step, struct body *body);
+/* Puts an entry into the next record, and frees its body. */
+void add_entry(struct session *session, enum entry kind, struct body *body);
+
+/* Has all that the server took, and what is known beside it since, be in the journal, and on the disk; and the server hear so. A kill leaves
+ * all of it or nothing, unless it is more than MOST_IN_TURN. */
+void settle(struct session *session);
+enum { MOST_IN_TURN = 1 << 20 };
 
 /* Has all that was written be on the disk. */
 void sync_journal(struct session *session);

@@ -1,6 +1,7 @@
-/* journal_records.c: which steps of a session its journal has, and a document as bytes. */
+/* journal_records.c: what a journal has of a session beside the records of its server. */
 #define _GNU_SOURCE
 #include <errno.h>
+#include <stdio.h>
 #include <stdlib.h>
 #include <string.h>
 #include <unistd.h>
@@ -17,14 +18,6 @@
 #include "session/persistent_session.h"
 #include "session/session.h"
 #include "sulgrevad.h"
-
-/* A text that is loaded again and again is to cost a journal next to nothing, so of an answer it has the hash. To say that again the host
- * has to take first what has come, and edits are quick only where many are taken at once. So where there are some since, answers stay whole
- * up to so many bytes. */
-enum {
-    LEAST_AGAIN = 256, /* bytes of an answer of which a record has the hash */
-    MOST_WHOLE = 16384
-};
 
 /* ---- A document ---- */
 
@@ -81,6 +74,7 @@ static void add_document(struct body *body, uint16_t tag, const struct document 
     add_number(body, document->is_taken);
     add_number(body, document->is_reported);
     add_number(body, document->purpose);
+    add_number(body, document->is_told_of);
     add_copy(body, &document->aside);
     for (const struct known *known = document->known; known != NULL; known = known->next)
         count++;
@@ -134,17 +128,16 @@ void take_document(struct session *session, struct record *record)
     document.is_taken = take_number(record) != 0;
     document.is_reported = take_number(record) != 0;
     document.purpose = take_purpose(record);
+    document.is_told_of = take_number(record) != 0;
     take_copy(record, &document.aside);
     take_known(record, &document);
-    document.is_open = session->documents[tag].is_open;
-    document.is_told_of = session->documents[tag].is_told_of;
     free_document(&session->documents[tag]);
     document.noted = (struct copy_mark){document.aside.device, document.aside.inode, document.aside.written};
     session->documents[tag] = document;
     session->has_unmarked |= document.is_unmarked;
 }
 
-/* ---- Steps ---- */
+/* ---- Entries ---- */
 
 static bool is_noted(const struct copy *copy, const struct copy_mark *mark)
 {
@@ -164,7 +157,7 @@ void record_document(struct session *session, uint16_t tag)
 
     set_mark(&session->documents[tag].aside, &session->documents[tag].noted);
     add_document(&body, tag, &session->documents[tag]);
-    add_body(session, STEP_KEPT, &body);
+    add_entry(session, ENTRY_KNOWN, &body);
 }
 
 void record_copies(struct session *session)
@@ -180,7 +173,7 @@ void record_copies(struct session *session)
         struct body body = {0};
         set_mark(&cut->aside, &cut->noted);
         add_copy(&body, &cut->aside);
-        add_body(session, STEP_KEPT_CUT, &body);
+        add_entry(session, ENTRY_CUT, &body);
     }
 }
 
@@ -190,59 +183,41 @@ void take_cut_copy(struct session *session, struct record *record)
     set_mark(&session->cut.aside, &session->cut.noted);
 }
 
-void record_done(struct session *session, enum doing doing, uint16_t tag, const struct message *answer, bool is_held)
+static void record_number(struct session *session, enum entry kind, uint64_t number)
 {
     struct body body = {0};
 
-    add_number(&body, doing);
-    add_number(&body, is_held);
-    add_data(&body, answer == NULL ? NULL : answer->bytes, answer == NULL ? 0 : answer->len);
-    add_document(&body, tag, &session->documents[tag]);
-    set_mark(&session->documents[tag].aside, &session->documents[tag].noted);
-    add_body(session, STEP_DONE, &body);
-    record_copies(session);
+    add_number(&body, number);
+    add_entry(session, kind, &body);
 }
 
-void record_down(struct session *session, const uint8_t *bytes, size_t len)
+void record_wanted(struct session *session, uint16_t tag, uint32_t request)
 {
-    struct journal *journal = &session->stay->journal;
-    struct text text = {(uint8_t *)bytes, len};
-    struct body body = {0};
-
-    journal->whole += len;
-    if (len < LEAST_AGAIN || (journal->has_edits && journal->whole < MOST_WHOLE)) {
-        add_record(session, STEP_DOWN, bytes, len);
-        return;
-    }
-    journal->has_edits = false;
-    journal->whole = 0;
-    add_number(&body, len);
-    add_number(&body, content_of(&text).hash);
-    add_body(session, STEP_DOWN_AGAIN, &body);
+    record_number(session, ENTRY_WANTED, (uint64_t)tag << 32 | request);
 }
 
-/* Takes the whole text of a file for a body, behind its length in bytes. */
-static void add_text_of(struct session *session, uint16_t tag, struct body *body)
+void record_answered(struct session *session, uint16_t tag)
 {
-    if (take_text(session, tag) == 0)
-        add_data(body, session->text.bytes, session->text.len);
-    else
-        body->is_short = true;
+    record_number(session, ENTRY_ANSWERED, tag);
 }
 
-void record_file(struct session *session, uint16_t tag)
+void record_held(struct session *session, const struct closed *closed)
 {
     struct body body = {0};
-    char name[NAME_ROOM];
-    size_t len = 0;
 
-    if (!takes_records(&session->stay->journal))
-        return;
-    body.is_short = sam_host_name(&session->host, tag, (uint8_t *)name, NAME_ROOM, &len) != SAM_OK;
-    add_data(&body, name, len);
-    add_text_of(session, tag, &body);
-    add_document(&body, tag, &session->documents[tag]);
-    add_body(session, STEP_FILE, &body);
+    add_words(&body, closed->name);
+    add_data(&body, closed->text.bytes, closed->text.len);
+    add_entry(session, ENTRY_HELD, &body);
+}
+
+void record_freed(struct session *session, size_t place)
+{
+    record_number(session, ENTRY_FREED, place);
+}
+
+void record_ended(struct session *session, int status)
+{
+    record_number(session, ENTRY_ENDED, (uint64_t)status);
 }
 
 uint64_t form_and_version(uint32_t form, uint32_t version)
@@ -263,10 +238,33 @@ void record_start(struct session *session)
     add_number(&body, session->vault);
     add_number(&body, (uint64_t)stay->longest_alone);
     add_number(&body, form_and_version(RECORDS_FORM, sam_library_version()));
+    add_raw(&body, stay->id, SAM_LINK_ID_BYTES);
     free(folder);
-    add_body(session, STEP_START, &body);
+    add_entry(session, ENTRY_START, &body);
+    settle(session);
     for (size_t tag = 1; tag < tags; tag++)
-        record_file(session, (uint16_t)tag);
-    add_record(session, STEP_BEGUN, NULL, 0);
-    sync_journal(session);
+        record_document(session, (uint16_t)tag);
+    for (const struct closed *closed = session->closed; closed != NULL; closed = closed->next)
+        record_held(session, closed);
+    add_entry(session, ENTRY_BEGUN, &(struct body){0});
+    settle(session);
+}
+
+void begin_fresh_journal(struct session *session)
+{
+    const struct home *home = &session->stay->home;
+
+    const struct journal *before = &session->stay->journal;
+    bool was_held = before->is_held;
+    int lost = before->lost;
+
+    close_journal(&session->stay->journal);
+    make_journal(session, NEW_JOURNAL);
+    put_messages(session);
+    record_start(session);
+    if (was_held && session->stay->journal.is_held)
+        session->stay->journal.lost = lost; /* else it was told */
+    if (session->stay->journal.file >= 0 && renameat(home->folder, NEW_JOURNAL, home->folder, JOURNAL) != 0)
+        hold_journal(session, errno);
+    sync_home(home);
 }

@@ -1,4 +1,4 @@
-/* journal_records.h: which steps of a session its journal has, and a document as bytes. */
+/* journal_records.h: what a journal has of a session beside the records of its server. */
 #ifndef SAMHOST_JOURNAL_JOURNAL_RECORDS_H
 #define SAMHOST_JOURNAL_JOURNAL_RECORDS_H
 
@@ -8,12 +8,12 @@
 
 #include "journal/journal.h"
 
-struct message;
+struct closed;
 struct session;
 
 /* The form of the records. It grows with each change of what they say, so that no samhost takes up a session whose records it would read
  * otherwise: tests/host/host_checks/journals.py has a sum of the code that decides. */
-#define RECORDS_FORM 3
+#define RECORDS_FORM 4
 
 /* What the first record says that the others are of: the form, and the library's version. */
 uint64_t form_and_version(uint32_t form, uint32_t version);
@@ -21,20 +21,26 @@ uint64_t form_and_version(uint32_t form, uint32_t version);
 /* Records how a session began, and its files. */
 void record_start(struct session *session);
 
-/* Records bytes of the host that the link put. */
-void record_down(struct session *session, const uint8_t *bytes, size_t len);
-
-/* Records a file that the host was given. */
-void record_file(struct session *session, uint16_t tag);
+/* Puts a journal of a session that has a new server in the place of the one that is there. Where that can't be it is held, and none is
+ * there: a journal that nobody writes would bring an older text back. */
+void begin_fresh_journal(struct session *session);
 
 /* Records what is known of a file. */
 void record_document(struct session *session, uint16_t tag);
 
-/* Records what was done to a file, and how that is answered (NULL: not at all); or that a text that can't be saved is held in memory. */
-void record_done(struct session *session, enum doing doing, uint16_t tag, const struct message *answer, bool is_held);
-
 /* Records the copies of texts that are new. */
 void record_copies(struct session *session);
+
+/* Records that a write of a file is to answer a request, and that it has. */
+void record_wanted(struct session *session, uint16_t tag, uint32_t request);
+void record_answered(struct session *session, uint16_t tag);
+
+/* Records the text of a closed file, which could not be saved; and that the one at this place of the list is saved. */
+void record_held(struct session *session, const struct closed *closed);
+void record_freed(struct session *session, size_t place);
+
+/* Records that the last message is said. */
+void record_ended(struct session *session, int status);
 
 /* Takes what a record says of a document, and of the copy of what was cut last. */
 void take_document(struct session *session, struct record *record);

@@ -71,6 +71,23 @@ void add_words(struct body *body, const char *words)
         add_data(body, words, strlen(words));
 }
 
+void add_entry_head(struct body *body, enum entry kind, size_t len)
+{
+    const uint8_t byte = (uint8_t)kind;
+
+    add_raw(body, &byte, 1);
+    add_number(body, len);
+}
+
+uint8_t take_kind(struct record *record)
+{
+    record->is_wrong |= record->len == 0;
+    if (record->is_wrong)
+        return 0;
+    record->len--;
+    return *record->body++;
+}
+
 uint64_t take_number(struct record *record)
 {
     if (record->len < 8) {

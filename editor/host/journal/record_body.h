@@ -6,27 +6,20 @@
 #include <stddef.h>
 #include <stdint.h>
 
-/* What a record of a journal is of: the first byte of its body. */
-enum step {
-    STEP_START = 1, /* the session: its folder, and what the words said */
-    STEP_FILE,      /* a file that the host was given */
-    STEP_BEGUN,     /* all of the first ones stand before this */
-    STEP_HELLO,     /* a connection that the link took */
-    STEP_UP,        /* bytes that the link took */
-    STEP_DOWN,      /* bytes of the host that the link put */
-    STEP_NOTE,      /* a message that the link put */
-    STEP_NOTED,     /* the next message of the terminal was done, and the link put these messages then */
-    STEP_DONE,      /* a file was written, or saved before it was closed; how that is answered, and what is known of the file since */
-    STEP_KEPT,      /* what is known of a file since its text was saved aside */
-    STEP_KEPT_CUT,  /* the copy of what was cut last */
-    STEP_SYNCED,    /* nothing, but a record: it says that all before it was on the disk */
-    STEP_DOWN_AGAIN /* the same, of which it has how many and the hash: the host says them again */
+/* What a record of a journal is of. The first one is of the session, and each other one of what a turn made: entries, of which each has a
+ * kind, a length, and a body. */
+enum entry {
+    ENTRY_START = 1,   /* the session: its folder, what the words said, and the id of its server. It stands alone, without a length */
+    ENTRY_SERVER = 32, /* a record of the server */
+    ENTRY_BEGUN,       /* all of the first ones stand before this */
+    ENTRY_KNOWN,       /* what is known of a file */
+    ENTRY_CUT,         /* the copy of what was cut last */
+    ENTRY_WANTED,      /* a write of a file is to answer a request */
+    ENTRY_ANSWERED,    /* the oldest one of a file is answered */
+    ENTRY_HELD,        /* the text of a closed file, which could not be saved */
+    ENTRY_FREED,       /* the one at this place among these is saved */
+    ENTRY_ENDED        /* the last message is said; the exit status */
 };
-
-enum { LAST_STEP = STEP_DOWN_AGAIN };
-
-/* What is done to files because of a message. */
-enum doing { DOING_WRITE = 1, DOING_CLOSE };
 
 /* The body of a record that is made. */
 struct body {
@@ -35,9 +28,8 @@ struct body {
     bool is_short; /* memory was out */
 };
 
-/* A record that is read, of which the body goes as it is taken, but for the step. */
+/* A record or an entry that is read, of which the body goes as it is taken. */
 struct record {
-    enum step step;
     const uint8_t *body;
     size_t len;
     bool is_wrong, is_short; /* it has less than was taken; memory was out */
@@ -51,7 +43,9 @@ void add_number(struct body *body, uint64_t number);
 void add_raw(struct body *body, const void *bytes, size_t len);
 void add_data(struct body *body, const void *bytes, size_t len);
 void add_words(struct body *body, const char *words);
+void add_entry_head(struct body *body, enum entry kind, size_t len);
 uint64_t take_number(struct record *record);
+uint8_t take_kind(struct record *record);
 const uint8_t *take_data(struct record *record, size_t *len);
 char *take_words(struct record *record);
 

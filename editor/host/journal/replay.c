@@ -1,438 +1,236 @@
 /* replay.c: makes a session again of its journal.
  *
- * The files and the terminal's bytes alone decide what a host is, and what a link puts. So a new host and a new link are given the same, in
- * the same order, and have to say the very same: where they don't, that is a fault of this program, and nothing is sent. What was done to
- * files is not done again, but for what the process had not come to.
- *
- * The link goes ahead: it puts what the host said, as the journal has it, before the host has said it again. So the host gets much at once,
- * and takes edits of one file together. It catches up before files join, before notes, where much waits, and where the journal
- * has no more than the hash of what it said.
+ * The library makes the server again of its records. An effect whose end no record has is asked for again: a file may be written twice,
+ * with the same text. What samhost knows beside the server is what the records said last.
  */
 #define _GNU_SOURCE
 #include <errno.h>
+#include <stdint.h>
 #include <stdlib.h>
 #include <string.h>
 #include <sys/stat.h>
 #include <unistd.h>
 
 #include "journal/replay.h"
+#include "disk/autosave.h"
 #include "disk/errors.h"
-#include "disk/paths.h"
 #include "journal/journal.h"
 #include "journal/journal_records.h"
 #include "limits.h"
 #include "log.h"
-#include "net/event_loop.h"
 #include "session/dirty_marks.h"
 #include "session/document.h"
-#include "session/ending.h"
 #include "session/messages.h"
 #include "session/persistent_session.h"
 #include "session/session.h"
+#include "session/wished.h"
 #include "sulgrevad.h"
 
-enum { MOST_AHEAD = 1 << 20 }; /* bytes of the terminal and of the host that may wait until the host catches up */
+/* A session that is being made again. */
+struct replay {
+    struct session *session;
+    sam_recovery recovery;
+    size_t taken, most; /* records of the server: how many were taken, and how many there are */
+    bool is_again;      /* all else is known */
+    bool has_begun;  /* all of its first files are there */
+    bool is_other;   /* another version of the library has written it */
+    bool is_damaged; /* what was done behind its end is not known */
+    enum replay_fault fault;
+};
 
-static ssize_t take_in(struct session *session, uint8_t *into, size_t room)
+/* ---- Entries ---- */
+
+/* Begins with a server of this id, which is zeros before a terminal has come. */
+static void begin_server(struct replay *replay, struct record *record)
 {
-    size_t count = 0;
+    struct stay *stay = replay->session->stay;
 
-    if (sam_link_take_in(&session->stay->link, into, room, &count) == SAM_OK && count > 0)
-        return (ssize_t)count;
-    errno = EAGAIN;
-    return -1;
-}
-
-/* What the host says waits until the journal says that it was put. */
-static ssize_t hold_out(struct session *session, const uint8_t *bytes, size_t len)
-{
-    (void)session;
-    (void)bytes;
-    (void)len;
-    errno = EAGAIN;
-    return -1;
-}
-
-static const struct carrier by_journal = {take_in, hold_out};
-
-/* ---- What was done to files ---- */
-
-bool is_done_already(struct session *session, enum doing doing, uint16_t tag)
-{
-    struct replay *replay = session->stay->replay;
-
-    if (replay == NULL)
-        return false;
-    if (replay->next == replay->count) {
-        bool is_write = replay->is_damaged && doing == DOING_WRITE; /* nobody knows what came after it */
-        if (is_write)
-            mark_dirty(session, tag);
-        return is_write;
-    }
-    struct record record = replay->done[replay->next++];
-    size_t len;
-    bool is_other = take_number(&record) != doing, is_held = take_number(&record) != 0;
-    (void)take_data(&record, &len); /* the answer */
-    struct record document = record;
-    if (is_other || take_number(&document) != tag || document.is_wrong) {
-        replay->fault = REPLAY_DIFFERS;
-        return true;
-    }
-    if (!is_held)
-        take_document(session, &record);
-    return !is_held;
-}
-
-/* ---- Steps ---- */
-
-/* Has the host take what has come, up to the next note. */
-static void take_all(struct session *session)
-{
-    struct stay *stay = session->stay;
-    bool has_come = session->wire.is_short;
-    int tries = 0;
-
-    while (stay->replay->fault == REPLAY_OK && stay->ending == GOES_ON) {
-        while (read_bytes(session))
-            has_come = true;
-        if (!has_come)
-            return;
-        stay->ending = take_input(session);
-        if (session->wire.is_short && stay->ending == GOES_ON)
-            stay->ending = take_again(session, &tries);
-        if (session->wire.is_short)
-            stay->replay->fault = REPLAY_SHORT;
-        has_come = false;
-    }
-}
-
-/* Compares what the host says with what it said before. */
-static void compare_said(struct session *session)
-{
-    struct wire *wire = &session->wire;
-    struct replay *replay = session->stay->replay;
-    const struct body *said = &replay->said;
-
-    for (size_t at = 0; at < said->len && replay->fault == REPLAY_OK;) {
-        if (wire->sent == wire->output_len)
-            send_pending(session); /* fetches more */
-        size_t has = wire->output_len - wire->sent, len = has < said->len - at ? has : said->len - at;
-        if (len == 0 || memcmp(wire->output + wire->sent, said->bytes + at, len) != 0)
-            replay->fault = REPLAY_DIFFERS;
-        wire->sent += len;
-        at += len;
-    }
-    replay->said.len = 0;
-}
-
-/* Has the host take what has come, up to the next note, and say what it said before. */
-static void catch_up(struct session *session)
-{
-    take_all(session);
-    compare_said(session);
-    session->stay->replay->came = 0;
-}
-
-/* Has the link put what the host said before, and will say again. */
-static void put_again(struct session *session, const struct record *record)
-{
-    struct replay *replay = session->stay->replay;
-
-    add_raw(&replay->said, record->body, record->len);
-    if (replay->said.is_short || sam_link_put(&session->stay->link, record->body, record->len) != SAM_OK)
-        replay->fault = REPLAY_SHORT;
-    else if (replay->came + replay->said.len >= MOST_AHEAD)
-        catch_up(session);
-}
-
-/* Takes so many bytes that the host says next. Returns how many there are. */
-static size_t take_said(struct session *session, uint8_t *into, size_t wanted)
-{
-    struct wire *wire = &session->wire;
-    size_t has = 0, len;
-
-    do {
-        if (wire->sent == wire->output_len)
-            send_pending(session); /* fetches more */
-        len = wire->output_len - wire->sent < wanted - has ? wire->output_len - wire->sent : wanted - has;
-        memcpy(into + has, wire->output + wire->sent, len);
-        wire->sent += len;
-        has += len;
-    } while (len > 0);
-    return has;
-}
-
-/* Has the host say again what the journal has the hash of, and the link put it. */
-static void say_again(struct session *session, struct record *record)
-{
-    struct replay *replay = session->stay->replay;
-    uint8_t bytes[PIECE];
-    struct text said = {bytes, 0};
-    uint64_t len = take_number(record), hash = take_number(record);
-
-    catch_up(session);
-    if (replay->fault != REPLAY_OK || record->is_wrong)
+    record->is_wrong |= record->len < SAM_LINK_ID_BYTES;
+    if (record->is_wrong)
         return;
-    said.len = len > PIECE ? 0 : take_said(session, bytes, (size_t)len);
-    if (said.len != len || content_of(&said).hash != hash)
-        replay->fault = REPLAY_DIFFERS;
-    else if (sam_link_put(&session->stay->link, bytes, said.len) != SAM_OK)
+    memcpy(stay->id, record->body, SAM_LINK_ID_BYTES);
+    record->body += SAM_LINK_ID_BYTES;
+    record->len -= SAM_LINK_ID_BYTES;
+    for (int at = 0; at < SAM_LINK_ID_BYTES; at++)
+        stay->is_named |= stay->id[at] != 0;
+    if (sam_recovery_new(&replay->recovery, stay->id) != SAM_OK)
         replay->fault = REPLAY_SHORT;
 }
 
-static void take_start(struct session *session, struct record *record)
+/* Enters the folder in which the session began. */
+static void enter(struct replay *replay, char *folder)
 {
-    char *folder = take_words(record);
+    struct session *session = replay->session;
 
-    session->mode_of_new_files = (mode_t)take_number(record);
-    session->vault = (uint16_t)take_number(record);
-    session->stay->longest_alone = (int64_t)take_number(record);
-    uint64_t written_by = take_number(record);
-    session->stay->replay->is_other = written_by != form_and_version(RECORDS_FORM, sam_library_version());
-    if (written_by >> 32 != RECORDS_FORM) {
-        session->stay->replay->fault = REPLAY_OTHER_FORM;
-        free(folder);
-        return;
-    }
-    umask(0666 & ~session->mode_of_new_files);
     if (folder == NULL || chdir(folder) != 0) {
         say("%s: %s", folder == NULL ? "the folder of the session" : folder, cause(errno));
         if (folder != NULL && session->stay->is_to_end) { /* its texts are saved elsewhere */
             session->lost_folder = folder;
             return;
         }
-        session->stay->replay->fault = REPLAY_NO_FOLDER;
+        replay->fault = REPLAY_NO_FOLDER;
     }
     free(folder);
 }
 
-static void take_file(struct session *session, struct record *record)
+static void take_start(struct replay *replay, struct record *record)
 {
-    size_t name_len, len;
-    const uint8_t *name = take_data(record, &name_len), *text = take_data(record, &len);
-    uint16_t tag = 0;
+    struct session *session = replay->session;
+    char *folder = take_words(record);
 
-    if (record->is_wrong)
+    session->mode_of_new_files = (mode_t)take_number(record);
+    session->vault = (uint16_t)take_number(record);
+    session->stay->longest_alone = (int64_t)take_number(record);
+    uint64_t written_by = take_number(record);
+    replay->is_other = written_by != form_and_version(RECORDS_FORM, sam_library_version());
+    if (written_by >> 32 != RECORDS_FORM) {
+        replay->fault = REPLAY_OTHER_FORM;
+        free(folder);
         return;
-    uint32_t code = sam_host_add_file(&session->host, name, name_len, text, len, &tag);
-    struct record document = *record;
-    if (code == SAM_NO_MEMORY)
-        session->stay->replay->fault = REPLAY_SHORT;
-    else if (code != SAM_OK || take_number(&document) != tag)
-        session->stay->replay->fault = REPLAY_DIFFERS;
-    else
-        take_document(session, record);
-}
-
-/* Has a new link take a hello that the old one took. */
-static uint32_t answer_again(struct session *session, const struct record *record)
-{
-    struct stay *stay = session->stay;
-    uint32_t what;
-
-    if (stay->attempt == 0 && record->len == SAM_LINK_HELLO_BYTES) {
-        uint32_t code = sam_link_read_hello(record->body, record->len, &what, stay->id, &stay->attempt);
-        if (code == SAM_OK)
-            code = sam_link_new(&stay->link, SAM_LINK_HOST, stay->id);
-        if (code != SAM_OK)
-            return code;
-        session->is_met = what == SAM_LINK_TAKE_OVER;
     }
-    uint32_t code = sam_link_answer(&stay->link, record->body, record->len);
-    return code == SAM_OK ? (uint32_t)sam_link_attempt(&stay->link, &stay->attempt) : code;
+    umask(0666 & ~session->mode_of_new_files);
+    enter(replay, folder);
+    if (replay->fault == REPLAY_OK)
+        begin_server(replay, record);
 }
 
-/* Has the link take bytes that the old one took. All that it has put counts as given, so that they may acknowledge it. */
-static uint32_t feed_again(struct stay *stay, const struct record *record)
+static void take_server_record(struct replay *replay, const struct record *record)
 {
-    size_t count = 0;
-    uint32_t code;
+    sam_status code = sam_recovery_take(&replay->recovery, record->body, record->len);
 
-    do
-        code = sam_link_take_out(&stay->link, stay->attempt, stay->out.bytes, PIECE, &count);
-    while (code == SAM_OK && count > 0);
-    return code == SAM_OK ? (uint32_t)sam_link_feed(&stay->link, stay->attempt, record->body, record->len) : code;
-}
-
-/* Has the link put a message that it put before. */
-static void message_again(struct session *session, const uint8_t *bytes, size_t len)
-{
-    struct stay *stay = session->stay;
-    struct sam_note note;
-
-    bool is_message = sam_note_read(bytes, len, &note) == SAM_OK, is_last = is_message && note.kind == SAM_NOTE_ENDED;
-    if (is_message && note.kind == SAM_NOTE_ANEW && note.number < ALL_TAGS)
-        session->documents[note.number].is_told_of = true;
-    stay->replay->has_first |= is_message && note.kind == SAM_NOTE_SESSION;
-    stay->has_ended |= is_last;
-    stay->is_kept |= is_last && note.number == STATUS_LOST; /* the journal has what could not be saved */
-    was_put(&stay->messages, bytes, len);
-    if (sam_link_put_note(&stay->link, bytes, len) != SAM_OK)
-        stay->replay->fault = REPLAY_SHORT;
-}
-
-/* A request for a write waits for that again; what other messages of the terminal asked for is in records of their own. */
-static void expect_again(struct session *session, const uint8_t *bytes, size_t len)
-{
-    struct sam_note note;
-
-    if (sam_note_read(bytes, len, &note) == SAM_OK && note.kind == SAM_NOTE_WRITE &&
-        !expect_write(&session->stay->messages, note.tag, note.request))
-        session->stay->replay->fault = REPLAY_SHORT;
-}
-
-/* The next message of the terminal was done, and answered by these messages. */
-static void answer_message_again(struct session *session, struct record *record)
-{
-    uint8_t note[SAM_LINK_MOST_NOTE];
-    size_t len;
-
-    catch_up(session);
-    if (sam_link_next_note(&session->stay->link, note, sizeof note, &len) == SAM_OK)
-        expect_again(session, note, len);
-    else
-        session->stay->replay->fault = REPLAY_DIFFERS;
-    while (record->len > 0 && !record->is_wrong) {
-        const uint8_t *answer = take_data(record, &len);
-        if (answer != NULL)
-            message_again(session, answer, len);
-    }
-}
-
-/* The answer of what was done to a file waits again, until a record says that it was put. */
-static void wait_for_answer(struct session *session, struct record *record)
-{
-    size_t len;
-
-    session->stay->replay->passed++;
-    (void)take_number(record); /* what was done, and whether a text is held */
-    (void)take_number(record);
-    const uint8_t *answer = take_data(record, &len);
-    if (answer != NULL && len > 0 && !wait_again(&session->stay->messages, answer, len))
-        session->stay->replay->fault = REPLAY_SHORT;
-}
-
-/* Takes what is known of a file since its text was saved aside, as with each pause of the user. The host catches up before that only where
- * it still has to come to something that was done to files, or to a mark of this one. */
-static void take_kept(struct session *session, struct record *record)
-{
-    const struct replay *replay = session->stay->replay;
-    struct record again = *record;
-    uint64_t tag = take_number(&again);
-
-    if (replay->next != replay->passed || (tag < ALL_TAGS && session->documents[tag].is_unmarked))
-        catch_up(session);
-    take_document(session, record);
-}
-
-static void replay_step(struct session *session, struct record *record)
-{
-    struct replay *replay = session->stay->replay;
-    uint32_t code = SAM_OK;
-
-    if (record->step == STEP_FILE || record->step == STEP_KEPT_CUT)
-        catch_up(session);
-    if (record->step == STEP_START)
-        take_start(session, record);
-    else if (record->step == STEP_FILE)
-        take_file(session, record);
-    else if (record->step == STEP_HELLO)
-        code = answer_again(session, record);
-    else if (record->step == STEP_UP) {
-        replay->came += record->len;
-        code = feed_again(session->stay, record);
-    } else if (record->step == STEP_DOWN)
-        put_again(session, record);
-    else if (record->step == STEP_DOWN_AGAIN)
-        say_again(session, record);
-    else if (record->step == STEP_NOTE)
-        message_again(session, record->body, record->len);
-    else if (record->step == STEP_NOTED)
-        answer_message_again(session, record);
-    else if (record->step == STEP_DONE)
-        wait_for_answer(session, record);
-    else if (record->step == STEP_KEPT)
-        take_kept(session, record);
-    else if (record->step == STEP_KEPT_CUT)
-        take_cut_copy(session, record);
     if (code != SAM_OK)
         replay->fault = code == SAM_NO_MEMORY ? REPLAY_SHORT : REPLAY_DIFFERS;
+    else
+        wished_scan_record(replay->session, record->body, record->len);
+    replay->taken += code == SAM_OK;
+}
+
+static void take_wanted(struct replay *replay, uint64_t number)
+{
+    if (!expect_write(&replay->session->stay->messages, (uint16_t)(number >> 32), (uint32_t)number))
+        replay->fault = REPLAY_SHORT;
+}
+
+static void take_held(struct replay *replay, struct record *record)
+{
+    char *name = take_words(record);
+    struct text text = {0};
+
+    text.bytes = (uint8_t *)take_data(record, &text.len);
+    if (name == NULL || record->is_wrong || !add_closed(replay->session, 0, name, &text))
+        replay->fault = record->is_wrong ? REPLAY_DIFFERS : REPLAY_SHORT;
+    free(name);
+}
+
+static void take_ended(struct stay *stay, uint64_t status)
+{
+    stay->has_ended = true;
+    stay->is_kept = status == STATUS_LOST; /* the journal has what could not be saved */
+}
+
+static void replay_entry(struct replay *replay, uint8_t kind, struct record *record)
+{
+    struct session *session = replay->session;
+
+    if (kind == ENTRY_SERVER)
+        take_server_record(replay, record);
+    else if (kind == ENTRY_BEGUN)
+        replay->has_begun = true;
+    else if (kind == ENTRY_KNOWN)
+        take_document(session, record);
+    else if (kind == ENTRY_CUT)
+        take_cut_copy(session, record);
+    else if (kind == ENTRY_WANTED)
+        take_wanted(replay, take_number(record));
+    else if (kind == ENTRY_ANSWERED)
+        drop_request(&session->stay->messages, (uint16_t)take_number(record));
+    else if (kind == ENTRY_HELD)
+        take_held(replay, record);
+    else if (kind == ENTRY_FREED)
+        drop_closed(session, take_number(record));
+    else if (kind == ENTRY_ENDED)
+        take_ended(session->stay, take_number(record));
+    else
+        record->is_wrong = true;
     if (record->is_short)
         replay->fault = REPLAY_SHORT;
-    else if (record->is_wrong && replay->fault == REPLAY_OK)
-        replay->fault = REPLAY_DIFFERS;
+}
+
+static void replay_record(struct replay *replay, struct record *record)
+{
+    while (record->len > 0 && replay->fault == REPLAY_OK && replay->taken < replay->most) {
+        uint8_t kind = take_kind(record);
+        struct record entry = {0};
+        if (kind == ENTRY_START)
+            take_start(replay, record);
+        else {
+            entry.body = take_data(record, &entry.len);
+            if (!record->is_wrong && (kind == ENTRY_SERVER || !replay->is_again))
+                replay_entry(replay, kind, &entry);
+        }
+        if ((record->is_wrong || entry.is_wrong) && replay->fault == REPLAY_OK)
+            replay->fault = REPLAY_DIFFERS;
+    }
 }
 
 /* ---- All of them ---- */
 
-/* Finds what was done to files, which the steps before it ask for. Hands out where the last whole record ends. Returns whether the session
- * had begun. */
-static bool find_done(const struct text *all, uint64_t random, struct record_place *end, struct replay *replay)
+/* Takes all whole records, and hands out where the last one ends. */
+static struct record_place replay_all(struct replay *replay, const struct text *all)
 {
-    size_t room = 0;
-    bool has_begun = false;
-
-    *end = first_record();
-    for (struct record record; next_record(all, random, end, &record);) {
-        has_begun |= record.step == STEP_BEGUN;
-        if (record.step != STEP_DONE)
-            continue;
-        if (replay->count == room) {
-            room = room == 0 ? 64 : 2 * room;
-            struct record *done = realloc(replay->done, room * sizeof *done);
-            if (done == NULL) {
-                replay->fault = REPLAY_SHORT;
-                return has_begun;
-            }
-            replay->done = done;
-        }
-        replay->done[replay->count++] = record;
-    }
-    return has_begun;
-}
-
-/* Has those messages wait without which no terminal can go on, as far as none of them was put. Returns whether there is memory for that. */
-static bool tell_again(struct session *session)
-{
-    struct stay *stay = session->stay;
-    bool is_told = stay->attempt == 0 || stay->replay->has_first || put_first_message(session);
-
-    return is_told && tell_hidden(session);
-}
-
-static void replay_all(struct session *session, const struct text *all, size_t end)
-{
-    struct stay *stay = session->stay;
-    struct record_place place = first_record();
+    struct record_place end = first_record();
     struct record record;
 
-    session->wire.carrier = &by_journal;
-    while (place.at < end && stay->replay->fault == REPLAY_OK && next_record(all, stay->journal.random, &place, &record))
-        replay_step(session, &record);
-    if (stay->replay->fault == REPLAY_OK)
-        catch_up(session);
-    if (stay->replay->fault == REPLAY_OK && stay->replay->next < stay->replay->count)
-        stay->replay->fault = REPLAY_DIFFERS;
-    if (stay->replay->fault == REPLAY_OK && !tell_again(session))
-        stay->replay->fault = REPLAY_SHORT;
-    if (stay->attempt > 0)
-        (void)!sam_link_broken(&stay->link, stay->attempt);
-    stay->out.len = stay->out.sent = 0;
+    while (replay->fault == REPLAY_OK && next_record(all, replay->session->stay->journal.random, &end, &record))
+        replay_record(replay, &record);
+    return end;
 }
 
 /* Cuts off what a crash has left of the last records. Where the journal is damaged instead, it stays as it is: the disk had what stands
  * before what its records say. */
-static enum replay_fault cut_to_whole_records(struct stay *stay, const struct text *all, bool has_begun, struct replay *replay)
+static enum replay_fault cut_to_whole_records(struct replay *replay, const struct text *all)
 {
+    struct stay *stay = replay->session->stay;
     size_t end = stay->journal.len;
 
-    if (!has_begun && all->len == first_record().at)
+    if (!replay->has_begun && all->len == first_record().at)
         return REPLAY_NOTHING;
-    replay->is_damaged = !has_begun || is_journal_damaged(all, end);
+    replay->is_damaged = !replay->has_begun || is_journal_damaged(all, end);
     stay->journal.damaged_at = end;
-    if (!has_begun)
+    if (!replay->has_begun)
         return REPLAY_DAMAGED;
     return replay->is_damaged || end == all->len || cut_journal(stay, all, end) == 0 ? REPLAY_OK : REPLAY_UNREADABLE;
+}
+
+/* Makes the server, which goes on behind all of them, and forgets closed files. A write whose end nobody knows is none. */
+static void finish_server(struct replay *replay)
+{
+    struct session *session = replay->session;
+    sam_effect effect;
+
+    if (sam_recovery_finish(&replay->recovery, session->server) != SAM_OK) {
+        replay->fault = REPLAY_SHORT;
+        return;
+    }
+    if (replay->is_damaged && sam_server_next_effect(session->server, &effect) == SAM_OK && effect.kind == SAM_EFFECT_WRITE)
+        mark_dirty(session, effect.tag);
+    for (size_t tag = 1, tags = count_tags(session); tag < tags; tag++) {
+        forget_closed(session, (uint16_t)tag);
+        session->has_unmarked |= session->documents[tag].is_unmarked;
+    }
+    if (!session->stay->is_named && !tell_hidden_again(session))
+        replay->fault = REPLAY_SHORT;
+}
+
+/* Makes the server of the records that it took, where it has not taken one, so that its texts are known. */
+static void make_known(const struct replay *replay, const struct text *all)
+{
+    struct replay again = {.session = replay->session, .most = replay->taken, .is_again = true, .is_damaged = true};
+
+    (void)replay_all(&again, all);
+    if (again.fault == REPLAY_OK)
+        finish_server(&again);
+    (void)sam_recovery_free(&again.recovery);
 }
 
 /* What there is of a journal of which the library says this. */
@@ -444,8 +242,7 @@ static enum replay_fault fault_of_head(sam_status head)
 enum replay_fault begin_again(struct session *session)
 {
     struct stay *stay = session->stay;
-    struct replay replay = {0};
-    struct record_place end;
+    struct replay replay = {.session = session, .most = SIZE_MAX};
     struct text all;
     sam_status head;
     int error = open_journal(stay, &all, &head);
@@ -453,17 +250,21 @@ enum replay_fault begin_again(struct session *session)
     replay.fault = error != 0 ? REPLAY_UNREADABLE : fault_of_head(head);
     if (replay.fault == REPLAY_OK && !make_session(session))
         replay.fault = REPLAY_SHORT;
-    bool has_begun = replay.fault == REPLAY_OK && find_done(&all, stay->journal.random, &end, &replay);
     if (replay.fault == REPLAY_OK) {
+        struct record_place end = replay_all(&replay, &all);
         go_on_behind(&stay->journal, &end);
-        replay.fault = cut_to_whole_records(stay, &all, has_begun, &replay);
     }
-    stay->replay = &replay;
+    if (replay.fault == REPLAY_DIFFERS && replay.taken > 0)
+        make_known(&replay, &all);
     if (replay.fault == REPLAY_OK)
-        replay_all(session, &all, end.at);
-    stay->replay = NULL;
-    free(replay.done);
-    free(replay.said.bytes);
+        replay.fault = cut_to_whole_records(&replay, &all);
+    if (replay.fault == REPLAY_OK)
+        finish_server(&replay);
+    if (replay.fault == REPLAY_OK && !replay.is_damaged)
+        sync_journal(session); /* who wrote it may have been killed before */
+    else
+        close_journal(&stay->journal);
+    (void)sam_recovery_free(&replay.recovery);
     close_records(&all);
     if (replay.is_damaged && (replay.fault == REPLAY_OK || replay.fault == REPLAY_DIFFERS))
         return REPLAY_DAMAGED;

@@ -7,15 +7,17 @@
 #include <poll.h>
 #include <stdio.h>
 #include <stdlib.h>
+#include <stdlib.h>
 #include <string.h>
 #include <sys/socket.h>
 #include <unistd.h>
 
 #include "net/handshake.h"
+#include "disk/autosave.h"
 #include "disk/errors.h"
 #include "disk/file_reader.h"
 #include "disk/saves.h"
-#include "journal/journal.h"
+#include "journal/journal_records.h"
 #include "log.h"
 #include "net/event_loop.h"
 #include "session/ending.h"
@@ -87,44 +89,76 @@ void name_of_id(const uint8_t id[SAM_LINK_ID_BYTES], char name[NAME_DIGITS + 1])
         snprintf(name + 2 * at, 3, "%02x", id[at]);
 }
 
-/* Makes the link and the first message, at the first hello, which says how the session is named in full. */
-static uint32_t make_link(struct session *session, const uint8_t *id)
+/* Gives another server the files of the one that a session has, under the same tags. */
+static sam_status copy_all(struct session *session, sam_server *into)
+{
+    char name[NAME_ROOM];
+    size_t tags = count_tags(session), len;
+    uint16_t tag;
+
+    for (size_t at = 1; at < tags; at++) {
+        if (take_text(session, (uint16_t)at) != 0 ||
+            sam_server_name(session->server, (uint16_t)at, (uint8_t *)name, NAME_ROOM, &len) != SAM_OK)
+            return SAM_NO_MEMORY;
+        sam_status code = sam_server_add_file(into, (const uint8_t *)name, len, session->text.bytes, session->text.len, &tag);
+        if (code != SAM_OK)
+            return SAM_NO_MEMORY;
+    }
+    return SAM_OK;
+}
+
+/* At the first hello, which says how the session is named in full: the files go over to a server of that name, and the first message stands
+ * before all others. */
+static sam_status name_server(struct session *session, const uint8_t *id, const struct caller *caller)
 {
     struct stay *stay = session->stay;
+    sam_server *named = calloc(1, sizeof *named);
     char name[NAME_DIGITS + 1];
 
     name_of_id(id, name);
     if (*stay->home.name == '\0')
         memcpy(stay->home.name, name, sizeof name);
-    if (strcmp(name, stay->home.name) != 0)
-        return SAM_LINK_OTHER_SESSION;
-    uint32_t code = sam_link_new(&stay->link, SAM_LINK_HOST, id);
-    if (code != SAM_OK)
-        return code;
+    sam_status code = strcmp(name, stay->home.name) != 0 ? SAM_LINK_OTHER_SESSION : named == NULL ? SAM_NO_MEMORY : SAM_OK;
+    if (code == SAM_OK)
+        code = sam_server_new(named, id);
+    if (code == SAM_OK)
+        code = copy_all(session, named);
+    if (code == SAM_OK)
+        code = sam_server_accept(named, caller->bytes, caller->len);
+    bool is_taken = code == SAM_OK || code == SAM_UNFINISHED;
+    uint8_t before[SAM_LINK_ID_BYTES];
+    memcpy(before, stay->id, sizeof before);
     memcpy(stay->id, id, SAM_LINK_ID_BYTES);
-    return put_first_message(session) ? SAM_OK : SAM_NO_MEMORY;
+    if (!is_taken || !put_first_message(session)) {
+        memcpy(stay->id, before, sizeof before);
+        (void)sam_server_free(named);
+        free(named);
+        return is_taken ? SAM_NO_MEMORY : code;
+    }
+    (void)sam_server_free(session->server);
+    free(session->server);
+    session->server = named;
+    stay->is_named = true;
+    if (takes_records(&stay->journal))
+        begin_fresh_journal(session);
+    return SAM_OK;
 }
 
-/* Has the link take a connection. What it refuses changes nothing. */
-static uint32_t answer(struct session *session, const struct caller *caller, const uint8_t *id, uint64_t attempt)
+/* Has the server take a connection. What it refuses changes nothing. */
+static sam_status answer(struct session *session, const struct caller *caller, const uint8_t *id, uint64_t attempt)
 {
     struct stay *stay = session->stay;
-    bool is_first = stay->attempt == 0;
-    uint32_t code = is_first ? make_link(session, id) : SAM_OK;
+    sam_status code;
 
-    if (code != SAM_OK) {
-        (void)sam_link_free(&stay->link);
-        return code;
-    }
-    code = sam_link_answer(&stay->link, caller->bytes, caller->len);
-    if (code == SAM_OK) {
+    if (!stay->is_named)
+        code = name_server(session, id, caller);
+    else
+        code = sam_server_accept(session->server, caller->bytes, caller->len);
+    if (code == SAM_UNFINISHED)
+        code = SAM_OK;
+    if (code == SAM_OK)
         stay->attempt = attempt;
-        add_record(session, STEP_HELLO, caller->bytes, caller->len);
-    } else if (is_first) {
-        drop_first_message(&stay->messages);
-        (void)sam_link_free(&stay->link);
-    }
-    return code;
+    return code == SAM_WAITING ? SAM_NO_MEMORY : code;
 }
 
 /* Takes a connection whose hello is whole, in the place of the one before, or refuses it. */
@@ -133,11 +167,12 @@ static void take_hello(struct session *session, struct caller *caller)
     struct stay *stay = session->stay;
     uint8_t id[SAM_LINK_ID_BYTES], refusal[SAM_LINK_HELLO_BYTES];
     uint64_t attempt = 0;
-    uint32_t what, code = sam_link_read_hello(caller->bytes, caller->len, &what, id, &attempt);
+    uint32_t what;
+    sam_status code = sam_link_read_hello(caller->bytes, caller->len, &what, id, &attempt);
 
     if (code == SAM_NONE)
         return; /* more is to come */
-    bool takes_over = code == SAM_OK && what == SAM_LINK_TAKE_OVER && (stay->attempt == 0 || memcmp(id, stay->id, sizeof id) != 0);
+    bool takes_over = code == SAM_OK && what == SAM_LINK_TAKE_OVER && (!stay->is_named || memcmp(id, stay->id, sizeof id) != 0);
     if (takes_over)
         code = take_over(session, caller, id, attempt);
     else if (code == SAM_OK)
@@ -149,9 +184,8 @@ static void take_hello(struct session *session, struct caller *caller)
         caller->socket = -1;
         if (stay->line >= 0)
             close(stay->line);
-        stay->in.len = stay->out.len = stay->out.sent = 0;
+        forget_pieces(stay);
         stay->line = stay->line_out = line;
-        put_messages(session);
     } else if (sam_link_write_refusal(code, caller->bytes, caller->len, refusal) == SAM_OK) {
         (void)send(caller->socket, refusal, sizeof refusal, MSG_NOSIGNAL | MSG_DONTWAIT); /* where it doesn't go, nobody is there */
     }
@@ -334,7 +368,7 @@ static void answer_open(struct session *session, struct caller *caller, const ch
 {
     struct stay *stay = session->stay;
     uint16_t tag = 0;
-    bool is_short = session->wire.is_short || stay->has_note;
+    bool is_short = stay->is_short;
     char answer[ANSWER_ROOM], *folder = getcwd(NULL, 0);
 
     path = seen_from_here(path, folder);
@@ -364,6 +398,16 @@ void report_closing(struct session *session, uint16_t tag)
         answer_line(waiter->socket, is_written ? "written\n" : "closed\n");
         close(waiter->socket);
         waiter->socket = -1;
+    }
+}
+
+void report_closed(struct session *session)
+{
+    for (int at = 0; at < MOST_WAITERS; at++) {
+        const struct waiter *waiter = &session->stay->waiters[at];
+        bool has = true;
+        if (waiter->socket >= 0 && sam_server_has_file(session->server, waiter->tag, &has) == SAM_OK && !has)
+            report_closing(session, waiter->tag);
     }
 }
 

@@ -59,11 +59,14 @@ int hear_streams(struct session *session, const sigset_t *mask);
 /* Before a file is closed: says to those who wait for it whether it was written. */
 void report_closing(struct session *session, uint16_t tag);
 
+/* Tells who waits for files that are closed. */
+void report_closed(struct session *session);
+
 /* Ends connections that have said too little for too long. Returns in how many milliseconds the next one is due; -1 where there is none. */
 int64_t drop_callers(struct stay *stay);
 
 /* The newest connection is over. */
-void drop_line(struct stay *stay);
+void drop_line(struct session *session);
 
 /* The name of the session whose link has an id. */
 void name_of_id(const uint8_t id[SAM_LINK_ID_BYTES], char name[NAME_DIGITS + 1]);

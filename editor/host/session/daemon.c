@@ -30,6 +30,7 @@
 #include "session/session.h"
 #include "session/session_control.h"
 #include "session/session_directory.h"
+#include "session/turns.h"
 #include "sulgrevad.h"
 
 enum {
@@ -92,7 +93,6 @@ void free_staying(struct session *session)
     if (stay->listener >= 0)
         close(stay->listener);
     close_home(&stay->home);
-    (void)sam_link_free(&stay->link);
     free_session(session);
     free(stay);
 }
@@ -216,7 +216,7 @@ static int serve_session(struct session *session)
 
     set_signals(&mask);
     int status = hear_streams(session, &mask);
-    if (status == STATUS_OK && session->stay->attempt > 0) {
+    if (status == STATUS_OK && session->stay->is_named) {
         fcntl(STDOUT_FILENO, F_SETFL, flags | O_NONBLOCK);
         status = stay_and_serve(session);
         fcntl(STDOUT_FILENO, F_SETFL, flags);
@@ -271,7 +271,7 @@ static const char *why_not_again(enum replay_fault fault)
     case REPLAY_OTHER_FORM:
         return "its journal is of another version of samhost";
     case REPLAY_DIFFERS:
-        return "its journal has other answers than samhost gives now, which is a fault of samhost";
+        return "its journal has records that lead nowhere, which is a fault of samhost";
     case REPLAY_SHORT:
         return "out of memory";
     case REPLAY_NO_FOLDER:
@@ -311,6 +311,8 @@ static int give_up(struct session *session, enum replay_fault fault, bool is_att
         say("session %s can't go on: its journal is damaged at byte %" PRIu64, home->name, session->stay->journal.damaged_at);
     else
         say("session %s can't go on: %s", home->name, why_not_again(fault));
+    if (fault == REPLAY_OTHER)
+        (void)take_turns(session); /* writes a file, if that was asked for last */
     bool is_saved = !is_known || close_session(session, INPUT_ENDED) == STATUS_OK;
     if (is_wrong)
         is_saved = keep_wrong(home);
@@ -329,7 +331,7 @@ static void finish_naming(struct session *session)
     char name[NAME_DIGITS + 1];
 
     name_of_id(stay->id, name);
-    if (stay->attempt > 0 && strcmp(name, stay->home.name) != 0 && rename_home(&stay->home, name) == 0)
+    if (stay->is_named && strcmp(name, stay->home.name) != 0 && rename_home(&stay->home, name) == 0)
         sync_home(&stay->home);
 }
 
@@ -380,6 +382,8 @@ int end_without_samhost(struct home *home, bool has_ended)
     enum replay_fault fault = has_some ? begin_again(session) : REPLAY_NOTHING;
     if (fault != REPLAY_OK && fault != REPLAY_NOTHING)
         return give_up(session, fault, false);
+    if (fault == REPLAY_OK)
+        (void)take_turns(session); /* writes a file, if that was asked for last */
     int status = !has_some ? report_rest(home, has_ended) : fault == REPLAY_OK ? close_session(session, INPUT_ENDED) : STATUS_OK;
     if (status == STATUS_LOST)
         say("session %s stays, since its journal has what is not saved: --end can be tried again", home->name);

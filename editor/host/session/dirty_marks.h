@@ -10,9 +10,6 @@ struct session;
 /* Notes that a file is to be marked, since its text is on no disk. */
 void mark_dirty(struct session *session, uint16_t tag);
 
-/* The terminal may have names now that it had not: files that it didn't know can be marked. */
-void allow_marks(struct session *session);
-
 /* Marks the files that are to be. Returns whether there is memory for that. */
 bool put_marks(struct session *session);
 

@@ -51,7 +51,6 @@ struct document {
     bool is_reported;       /* it was said that its text can't be saved */
     enum purpose purpose;
     bool is_told_of;  /* the terminal is told that it is hidden, or will be */
-    bool is_open;     /* the terminal has opened it, so it is watched */
     bool is_reloaded; /* its text was read anew, and the next write may find it in its file */
     struct watch watch;
 };

@@ -39,7 +39,7 @@ static uint16_t find_file(struct session *session, const struct identity *wanted
         struct identity identity = {0};
         bool has = false;
         int error;
-        if (is_hidden(session, tag) || sam_host_has_file(&session->host, (uint16_t)tag, &has) != SAM_OK || !has)
+        if (is_hidden(session, tag) || sam_server_has_file(session->server, (uint16_t)tag, &has) != SAM_OK || !has)
             continue;
         char *path = path_of(session, (uint16_t)tag, &error);
         if (path != NULL && identify(path, &identity) == 0 && is_one_file(&identity, wanted))
@@ -59,7 +59,7 @@ static int add_joined(struct session *session, const char *path, uint16_t *tag)
         error = add_text(session, path, &text, tag);
     free(text.bytes);
     if (error == 0)
-        record_file(session, *tag);
+        record_document(session, *tag);
     return error;
 }
 
@@ -143,6 +143,14 @@ static bool find_names(struct session *session, uint32_t request, const char *pa
 
 /* ---- Messages ---- */
 
+static bool want_write(struct session *session, uint16_t tag, uint32_t request)
+{
+    if (!expect_write(&session->stay->messages, tag, request))
+        return false;
+    record_wanted(session, tag, request);
+    return true;
+}
+
 bool do_message(struct session *session, const uint8_t *bytes, size_t len)
 {
     struct sam_note note;
@@ -162,7 +170,7 @@ bool do_message(struct session *session, const uint8_t *bytes, size_t len)
     case SAM_NOTE_RELOADED:
         return accept_reload(session, note.tag, note.number);
     case SAM_NOTE_WRITE:
-        return expect_write(&session->stay->messages, note.tag, note.request);
+        return want_write(session, note.tag, note.request);
     default:
         return true; /* the host's own */
     }

@@ -1,7 +1,6 @@
 /* messages.c: what a session says to its terminal, as typed messages of its link. Who has no terminal says it on standard error.
  *
- * Each write of a file gets one answer. A request for that takes the memory of its answer beforehand. The answer stands in the record of
- * the write, and in another once it is put: so another samhost neither leaves it out nor says it twice.
+ * Each write of a file gets one answer. A request for that takes the memory of its answer beforehand.
  */
 #define _XOPEN_SOURCE 700
 #include <stdarg.h>
@@ -10,7 +9,7 @@
 #include <string.h>
 
 #include "session/messages.h"
-#include "journal/journal.h"
+#include "journal/journal_records.h"
 #include "log.h"
 #include "net/handshake.h"
 #include "session/persistent_session.h"
@@ -127,30 +126,19 @@ void drop_first_message(struct messages *messages)
     free(first);
 }
 
-void put_answers(struct session *session, struct body *body)
-{
-    struct stay *stay = session->stay;
-
-    while (stay->messages.waiting != NULL) {
-        const struct message *message = stay->messages.waiting;
-        if (sam_link_put_note(&stay->link, message->bytes, message->len) != SAM_OK)
-            return;
-        if (body != NULL)
-            add_data(body, message->bytes, message->len);
-        else
-            add_record(session, STEP_NOTE, message->bytes, message->len);
-        drop_first_message(&stay->messages);
-    }
-}
-
 void put_messages(struct session *session)
 {
-    struct stay *stay = session->stay;
+    struct messages *messages = &session->stay->messages;
 
-    if (stay->attempt == 0 || stay->replay != NULL || stay->is_answering) /* there is no link yet, or it is not where it was */
+    if (!session->stay->is_named)
         return;
-    put_answers(session, NULL);
-    say_missing(&stay->messages);
+    while (messages->waiting != NULL) {
+        sam_status code = sam_server_say(session->server, messages->waiting->bytes, messages->waiting->len);
+        if (code != SAM_OK && code != SAM_UNFINISHED)
+            return;
+        drop_first_message(messages);
+    }
+    say_missing(messages);
 }
 
 static void free_list(struct message *message)
@@ -174,8 +162,8 @@ void free_messages(struct messages *messages)
  * out. */
 static bool is_said_aloud(const struct stay *stay, bool is_put)
 {
-    bool is_cut_off = stay->attempt > 0 && (stay->line < 0 || stay->line_out < 0);
-    bool is_stuck = stay->attempt > 0 && !stay->is_answering && stay->messages.waiting != NULL;
+    bool is_cut_off = stay->is_named && (stay->line < 0 || stay->line_out < 0);
+    bool is_stuck = stay->is_named && stay->messages.waiting != NULL;
 
     return who_listens() == NULL || (stay->has_streams && (is_cut_off || is_stuck || !is_put));
 }
@@ -272,7 +260,7 @@ void drop_request(struct messages *messages, uint16_t tag)
     free(take_request(messages, tag));
 }
 
-struct message *answer_write(struct session *session, struct event event, const char *format, ...)
+void answer_write(struct session *session, struct event event, const char *format, ...)
 {
     char words[LINE_ROOM];
     struct message *answer = take_request(&session->stay->messages, event.tag);
@@ -281,46 +269,17 @@ struct message *answer_write(struct session *session, struct event event, const 
     va_start(list, format);
     spell_line(words, format, list);
     va_end(list);
+    if (answer != NULL)
+        record_answered(session, event.tag);
     event.request = answer == NULL ? 0 : answer->request;
     if (answer == NULL)
         answer = malloc(sizeof *answer + SAM_LINK_MOST_NOTE);
-    if (answer != NULL)
+    if (answer != NULL) {
         answer->len = spell(&event, words, answer->bytes);
-    else
+        append(&session->stay->messages.waiting, answer);
+    } else
         session->stay->messages.missing++;
+    put_messages(session);
     if (is_said_aloud(session->stay, answer != NULL))
         say_aloud(words);
-    return answer;
-}
-
-void put_answer(struct session *session, struct message *answer)
-{
-    if (answer == NULL)
-        return;
-    append(&session->stay->messages.waiting, answer);
-    put_messages(session);
-}
-
-/* ---- Made again ---- */
-
-bool wait_again(struct messages *messages, const uint8_t *bytes, size_t len)
-{
-    struct message *message = message_of(bytes, len);
-
-    if (message != NULL)
-        append(&messages->waiting, message);
-    return message != NULL;
-}
-
-void was_put(struct messages *messages, const uint8_t *bytes, size_t len)
-{
-    struct message **at = &messages->waiting;
-
-    while (*at != NULL && ((*at)->len != len || memcmp((*at)->bytes, bytes, len) != 0))
-        at = &(*at)->next;
-    if (*at != NULL) {
-        struct message *found = *at;
-        *at = found->next;
-        free(found);
-    }
 }

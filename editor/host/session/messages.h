@@ -8,7 +8,6 @@
 
 #include "sulgrevad.h"
 
-struct body;
 struct session;
 
 enum { MESSAGES_VERSION = 1 }; /* of the messages, as the first one says */
@@ -58,11 +57,8 @@ void drop_first_message(struct messages *messages);
  * standard error. */
 void tell(const struct event *event, const char *format, ...);
 
-/* Puts the messages that wait, as soon as there is a link. What was put goes into records of its own. */
+/* Says the messages that wait, as soon as a terminal has come. */
 void put_messages(struct session *session);
-
-/* The same while the terminal's note is being answered: what was put goes into the body of one record. */
-void put_answers(struct session *session, struct body *body);
 
 /* Says how many messages there was no memory for, if there are some. */
 void say_missing(struct messages *messages);
@@ -70,17 +66,11 @@ void say_missing(struct messages *messages);
 /* Notes that the next write of a file answers this request. Returns whether there is memory for that. */
 bool expect_write(struct messages *messages, uint16_t tag, uint32_t request);
 
-/* Makes the answer of a write, which answers the oldest request for it; NULL where memory is out. Words may be empty. The caller has it go
- * out by put_answer, once the journal has it. */
-struct message *answer_write(struct session *session, struct event event, const char *format, ...);
-void put_answer(struct session *session, struct message *answer);
+/* Answers a write, or the oldest request for it. Words may be empty. */
+void answer_write(struct session *session, struct event event, const char *format, ...);
 
 /* A write was answered before. */
 void drop_request(struct messages *messages, uint16_t tag);
-
-/* What a journal has of messages: an answer that was not put, and a message that was. */
-bool wait_again(struct messages *messages, const uint8_t *bytes, size_t len);
-void was_put(struct messages *messages, const uint8_t *bytes, size_t len);
 
 void free_messages(struct messages *messages);
 

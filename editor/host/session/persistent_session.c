@@ -19,6 +19,7 @@
 #include "session/persistent_session.h"
 #include "disk/autosave.h"
 #include "disk/errors.h"
+#include "disk/cut_backup.h"
 #include "disk/file_watcher.h"
 #include "journal/journal.h"
 #include "journal/journal_records.h"
@@ -29,6 +30,7 @@
 #include "session/ending.h"
 #include "session/file_requests.h"
 #include "session/session.h"
+#include "session/turns.h"
 #include "sulgrevad.h"
 
 enum {
@@ -40,100 +42,32 @@ enum {
     MOST_PIECES_LEFT = 64, /* pieces of input that are still taken after a signal */
 };
 
-/* How many bytes a link counts; none where there is no link yet. */
-static uint64_t count_of(struct stay *stay, sam_status (*reader)(sam_link *link, uint64_t *count))
+/* What the server counts of its link. */
+static uint64_t count_of(struct session *session, sam_status (*reader)(sam_server *server, uint64_t *count))
 {
     uint64_t count = 0;
 
-    return reader(&stay->link, &count) == SAM_OK ? count : 0;
-}
-
-/* ---- What the link carries ---- */
-
-/* Takes bytes of the terminal's stream, up to the next note. */
-static ssize_t take_in(struct session *session, uint8_t *into, size_t room)
-{
-    size_t count = 0;
-
-    if (!session->stay->has_note && sam_link_take_in(&session->stay->link, into, room, &count) == SAM_OK && count > 0)
-        return (ssize_t)count;
-    errno = EAGAIN;
-    return -1;
-}
-
-static ssize_t put_out(struct session *session, const uint8_t *bytes, size_t len)
-{
-    uint32_t code = SAM_NO_MEMORY;
-
-    put_messages(session);
-    if (session->stay->messages.waiting == NULL)
-        code = sam_link_put(&session->stay->link, bytes, len);
-    if (code == SAM_OK) {
-        record_down(session, bytes, len);
-        return (ssize_t)len;
-    }
-    errno = code == SAM_COUNT_FULL ? EOVERFLOW : EAGAIN;
-    return -1;
-}
-
-static const struct carrier by_link = {take_in, put_out};
-
-/* Does what the next note asks, if there is one, and memory for it. The answer is put in one step with the record that this is done: so
- * another samhost either does it anew, or has answered it. */
-static bool take_note(struct session *session)
-{
-    struct stay *stay = session->stay;
-    struct body answers = {0};
-
-    if (!stay->has_note) {
-        stay->has_note = sam_link_next_note(&stay->link, stay->note, SAM_LINK_MOST_NOTE, &stay->note_len) == SAM_OK;
-        if (!stay->has_note)
-            return false;
-    }
-    stay->is_answering = true;
-    bool is_done = do_message(session, stay->note, stay->note_len);
-    stay->is_answering = false;
-    if (!is_done)
-        return false;
-    stay->has_note = false;
-    put_answers(session, &answers);
-    add_body(session, STEP_NOTED, &answers);
-    return true;
-}
-
-/* Has the host take what has come, and does what notes ask, in their order. */
-static enum ending take_packets(struct session *session)
-{
-    struct wire *wire = &session->wire;
-    enum ending ending = GOES_ON;
-    bool has_come = wire->is_short;
-
-    do {
-        while (read_bytes(session))
-            has_come = true;
-        if (has_come)
-            ending = take_input(session);
-        has_come = ending == GOES_ON && !wire->is_short && (read_bytes(session) || take_note(session));
-    } while (has_come);
-    return ending;
+    return reader(session->server, &count) == SAM_OK ? count : 0;
 }
 
 /* ---- The connection ---- */
 
 /* No more comes over the newest connection. Standard output may still take what is due. */
-static void end_line(struct stay *stay)
+static void end_line(struct session *session)
 {
-    if (stay->has_streams)
-        stay->line = -1;
+    if (session->stay->has_streams)
+        session->stay->line = -1;
     else
-        drop_line(stay);
+        drop_line(session);
 }
 
 /* No more goes over it. The end of standard input will come, and what stands before it still counts. */
-static void stop_sending(struct stay *stay, int error)
+static void stop_sending(struct session *session, int error)
 {
+    struct stay *stay = session->stay;
+
     if (!stay->has_streams) {
-        drop_line(stay);
+        drop_line(session);
         return;
     }
     stay->line_out = -1;
@@ -143,28 +77,16 @@ static void stop_sending(struct stay *stay, int error)
     say("standard output can't be written: %s", cause(error));
 }
 
-/* Gives the link what was read. What can't be taken, since memory is out, is given again later. */
-static void feed_link(struct session *session)
+void break_line(struct session *session, sam_status why)
 {
     struct stay *stay = session->stay;
-    struct piece *in = &stay->in;
-    uint32_t code = sam_link_feed(&stay->link, stay->attempt, in->bytes, in->len);
 
-    if (code == SAM_OK)
-        add_record(session, STEP_UP, in->bytes, in->len);
-    if (code == SAM_NO_MEMORY && !stay->is_short)
-        say("out of memory; it is tried again");
-    stay->is_short = code == SAM_NO_MEMORY;
-    if (stay->is_short)
-        return;
-    in->len = 0;
-    if (code == SAM_OK)
-        return;
-    end_line(stay);
+    end_line(session);
+    stay->in.sent = stay->in.len = 0;
     if (stay->has_streams) { /* else the next connection brings all of it again */
         stay->line_out = -1; /* nothing goes over it any more */
         stay->broken = FAULT;
-        say("the terminal's stream is wrong (status %u)", (unsigned)code);
+        say("the terminal's stream is wrong (status %u)", (unsigned)why);
     }
 }
 
@@ -174,26 +96,25 @@ static void read_line(struct session *session)
     struct stay *stay = session->stay;
     struct piece *in = &stay->in;
 
-    if (in->len == 0) {
-        ssize_t count = read(stay->line, in->bytes, PIECE);
-        if (count < 0 && (errno == EAGAIN || errno == EINTR))
-            return;
-        if (count < 0 && stay->has_streams) {
-            stay->broken = LINE_BROKE;
-            stay->line = -1;
-            say("standard input can't be read: %s", cause(errno));
-        }
-        if (count <= 0) {
-            end_line(stay);
-            return;
-        }
-        in->len = (size_t)count;
+    if (in->sent < in->len)
+        return;
+    ssize_t count = read(stay->line, in->bytes, PIECE);
+    if (count < 0 && (errno == EAGAIN || errno == EINTR))
+        return;
+    if (count < 0 && stay->has_streams) {
+        stay->broken = LINE_BROKE;
+        stay->line = -1;
+        say("standard input can't be read: %s", cause(errno));
     }
-    feed_link(session);
+    if (count <= 0) {
+        end_line(session);
+        return;
+    }
+    in->sent = 0;
+    in->len = (size_t)count;
 }
 
-/* Sends what the link has for the newest connection, as much as goes without waiting. All of it rests on records, so the disk has these
- * before: acknowledgements say what has come, and the rest has to come out of them as it was. */
+/* Sends what the server lets out over the newest connection, as much as goes without waiting. */
 static void write_line(struct session *session)
 {
     struct stay *stay = session->stay;
@@ -202,17 +123,16 @@ static void write_line(struct session *session)
     while (stay->line_out >= 0) {
         if (out->sent == out->len) {
             out->sent = out->len = 0;
-            if (sam_link_take_out(&stay->link, stay->attempt, out->bytes, PIECE, &out->len) != SAM_OK || out->len == 0)
+            if (sam_server_take_out(session->server, stay->attempt, out->bytes, PIECE, &out->len) != SAM_OK || out->len == 0)
                 return;
         }
-        sync_journal(session);
         const uint8_t *rest = out->bytes + out->sent;
         size_t len = out->len - out->sent;
         ssize_t count = stay->has_streams ? write(stay->line_out, rest, len) : send(stay->line_out, rest, len, MSG_NOSIGNAL | MSG_DONTWAIT);
         if (count < 0 && (errno == EAGAIN || errno == EINTR))
             return;
         if (count < 0)
-            stop_sending(stay, errno);
+            stop_sending(session, errno);
         else
             out->sent += (size_t)count;
     }
@@ -220,7 +140,14 @@ static void write_line(struct session *session)
 
 void flush_line(struct session *session)
 {
-    sync_journal(session);
+    write_line(session);
+}
+
+/* Says and sends what there is, once it is in the journal. */
+static void send_all(struct session *session)
+{
+    put_messages(session);
+    settle(session);
     write_line(session);
 }
 
@@ -228,18 +155,26 @@ void say_the_last(struct session *session, const char *machine)
 {
     if (session->stay->line < 0 || !put_message(session, &(struct event){.kind = SAM_NOTE_TAKEN_OVER}, machine))
         return;
+    settle(session);
     write_line(session);
 }
 
-void drop_line(struct stay *stay)
+void forget_pieces(struct stay *stay)
 {
+    stay->in.len = stay->in.sent = stay->out.len = stay->out.sent = 0;
+}
+
+void drop_line(struct session *session)
+{
+    struct stay *stay = session->stay;
+
     if (stay->line < 0 || stay->has_streams)
         return;
     close(stay->line);
     stay->line = stay->line_out = -1;
-    stay->in.len = stay->out.len = stay->out.sent = 0;
+    forget_pieces(stay);
     stay->alone_since = now();
-    (void)!sam_link_broken(&stay->link, stay->attempt); /* it takes no memory */
+    (void)!sam_server_broken(session->server, stay->attempt); /* it takes no memory */
 }
 
 /* ---- Waiting ---- */
@@ -263,8 +198,7 @@ static int64_t time_to_wait(const struct session *session, int64_t longest)
     int64_t wait = earlier(earlier(longest, save_is_due_in(session)), earlier(drop_callers(stay), watch_is_due_in(session)));
 
     wait = earlier(wait, time_left_alone(session));
-    bool is_short = stay->in.len > 0 || stay->has_note || session->wire.sent < session->wire.output_len || stay->messages.waiting != NULL;
-    return is_short && stay->attempt > 0 ? earlier(wait, PAUSE) : wait;
+    return stay->is_short && stay->is_named ? earlier(wait, PAUSE) : wait;
 }
 
 /* Sleeps until something comes or is due, and reads what it can; what is to be sent goes once the host has taken that, so that one sync
@@ -282,12 +216,12 @@ static void carry(struct session *session, const sigset_t *mask, int64_t longest
         free_ones += stay->callers[at].socket < 0;
     }
     ends[0] = (struct pollfd){free_ones > 0 ? stay->listener : -1, POLLIN, 0};
-    ends[1] = (struct pollfd){stay->in.len == 0 ? stay->line : -1, POLLIN, 0};
+    ends[1] = (struct pollfd){stay->in.sent == stay->in.len ? stay->line : -1, POLLIN, 0};
     ends[2] = (struct pollfd){stay->out.sent < stay->out.len ? stay->line_out : -1, POLLOUT, 0};
     if (ppoll(ends, 3 + MOST_CALLERS, wait < 0 ? NULL : &pause, mask) < 0)
         return;
     int line = stay->line;
-    for (int at = 0; at < MOST_CALLERS && stay->heir == NULL; at++) { /* first, as the host has taken by now all that the link has */
+    for (int at = 0; at < MOST_CALLERS && stay->heir == NULL; at++) {
         if (ends[3 + at].revents != 0)
             hear_caller(session, &stay->callers[at]);
     }
@@ -295,9 +229,8 @@ static void carry(struct session *session, const sigset_t *mask, int64_t longest
         return;
     if (ends[0].revents != 0)
         accept_callers(stay);
-    if (stay->line >= 0 && stay->line == line && (ends[1].revents != 0 || stay->in.len > 0))
+    if (stay->line >= 0 && stay->line == line && ends[1].revents != 0)
         read_line(session);
-    put_messages(session);
 }
 
 /* ---- The session ---- */
@@ -305,23 +238,20 @@ static void carry(struct session *session, const sigset_t *mask, int64_t longest
 /* After a signal, or a long time alone: takes what has come already. */
 static enum ending take_what_is_there(struct session *session, const sigset_t *mask)
 {
+    struct stay *stay = session->stay;
     enum ending ending = GOES_ON;
     uint64_t before, after = 0;
     int tries = 0, pieces = 0;
 
     do {
         before = after;
-        ending = take_packets(session);
+        ending = take_turns(session);
         if (ending == GOES_ON)
             ending = take_again(session, &tries);
         write_line(session);
         carry(session, mask, 0);
-        while (ending == GOES_ON && session->stay->has_streams && session->stay->in.len > 0 && is_tried_again(ENOMEM, &tries))
-            feed_link(session);
-        after = count_of(session->stay, sam_link_received);
-    } while (ending == GOES_ON && !session->wire.is_short && after != before && ++pieces <= MOST_PIECES_LEFT);
-    if (ending == GOES_ON && session->stay->has_streams && session->stay->in.len > 0 && !session->wire.is_short) /* else it is said */
-        lose_the_last(session);
+        after = count_of(session, sam_server_received) + (stay->in.len - stay->in.sent);
+    } while (ending == GOES_ON && !stay->is_short && after != before && ++pieces <= MOST_PIECES_LEFT);
     return ending;
 }
 
@@ -329,9 +259,9 @@ static enum ending take_what_is_there(struct session *session, const sigset_t *m
 static enum ending ending_of_line(struct session *session)
 {
     struct stay *stay = session->stay;
-    bool is_at_its_end = stay->has_streams && stay->line < 0 && stay->broken == GOES_ON && !session->wire.is_short;
+    bool is_at_its_end = stay->has_streams && stay->line < 0 && stay->broken == GOES_ON && !stay->is_short;
 
-    if (is_at_its_end && sam_host_finish(&session->host) == SAM_TRUNCATED) {
+    if (is_at_its_end && wished_is_truncated(stay)) {
         say("standard input ends inside a message");
         return LINE_BROKE;
     }
@@ -343,7 +273,7 @@ static bool is_given_up(struct stay *stay)
 {
     struct pollfd end = {stay->line, POLLRDHUP, 0};
 
-    if (!stay->has_streams || stay->in.len == 0 || poll(&end, 1, 0) <= 0)
+    if (!stay->has_streams || stay->in.sent == stay->in.len || poll(&end, 1, 0) <= 0)
         stay->gone = 0;
     else if (stay->gone == 0)
         stay->gone = now();
@@ -359,31 +289,28 @@ static enum ending serve_line(struct session *session, const sigset_t *mask)
         carry(session, mask, mending_is_due_in(session));
         if (stay->heir != NULL)
             return GOES_ON;
-        ending = take_packets(session);
-        send_pending(session);
+        ending = take_turns(session);
         mend_journal(session);
-        write_line(session);
+        send_all(session);
         watch_files(session);
-        if (save_due(session)) {
+        if (save_due(session))
             record_copies(session);
-            sync_journal(session);
-        }
+        send_all(session);
     }
     if (ending == GOES_ON)
         ending = take_what_is_there(session, mask);
-    send_pending(session);
     return ending == GOES_ON ? ending_of_line(session) : ending;
 }
 
 /* Whether the terminal has the last message, before which so many bytes were put, or can't hear of it. It has what standard output
  * took. */
-static bool has_heard_all(struct stay *stay, uint64_t wanted)
+static bool has_heard_all(struct session *session, uint64_t wanted)
 {
-    size_t unsent = 0;
+    const struct stay *stay = session->stay;
+    bool is_sent = stay->out.sent == stay->out.len;
 
     if (!stay->has_streams)
-        return wanted > 0 && count_of(stay, sam_link_acknowledged) >= wanted;
-    bool is_sent = stay->out.sent == stay->out.len && (sam_link_unsent(&stay->link, &unsent) != SAM_OK || unsent == 0);
+        return wanted > 0 && count_of(session, sam_server_acknowledged) >= wanted;
     return stay->line_out < 0 || (wanted > 0 && is_sent);
 }
 
@@ -399,28 +326,28 @@ static void say_the_end(struct session *session, const sigset_t *mask, int statu
     int64_t until = now() + (is_awaited ? LONGEST_END : stay->line >= 0 ? UNASKED_END : 0);
 
     stay->longest_alone = -1;
-    session->has_open = session->due.is_waiting = false; /* nobody is told of files any more, and all is saved */
-    while (stay->attempt > 0 && now() < until && is_signalled() == was_signalled && stay->is_to_end == was_to_end) {
+    session->due.is_waiting = false; /* all is saved */
+    while (stay->is_named && now() < until && is_signalled() == was_signalled && stay->is_to_end == was_to_end) {
         say_missing(&stay->messages); /* no line comes after the last message */
-        if (!stay->has_ended && stay->messages.missing == 0)
+        if (!stay->has_ended && stay->messages.missing == 0) {
             stay->has_ended = put_message(session, &(struct event){.kind = SAM_NOTE_ENDED, .number = (uint64_t)status}, NULL);
-        put_messages(session);
-        if (stay->has_ended && stay->messages.waiting == NULL && wanted == 0)
-            wanted = count_of(stay, sam_link_put_count);
-        sync_journal(session);
-        write_line(session);
-        if (has_heard_all(stay, wanted) || (stay->has_streams && wanted == 0 && !is_tried_again(ENOMEM, &tries)))
+            if (stay->has_ended)
+                record_ended(session, status);
+        }
+        take_no_more(session);
+        send_all(session);
+        if (wanted == 0 && stay->has_ended && stay->messages.waiting == NULL && stay->out.sent == stay->out.len && stay->line_out >= 0)
+            wanted = count_of(session, sam_server_put_count);
+        if (has_heard_all(session, wanted) || sam_is_stop(sam_server_go_on(session->server)) || (stay->has_streams && wanted == 0 && !is_tried_again(ENOMEM, &tries)))
             return;
         carry(session, mask, wanted > 0 ? until - now() : PAUSE);
-        while (read_bytes(session)) /* nothing counts any more */
-            session->wire.taken = session->wire.input_len;
     }
 }
 
 /* Whether the session is to stay in its folder: a signal has come, its terminal has not left, and it has a journal. */
 static bool is_kept_at(const struct stay *stay, enum ending ending)
 {
-    return ending == INPUT_ENDED && is_signalled() && !stay->is_to_end && stay->attempt > 0 && takes_records(&stay->journal);
+    return ending == INPUT_ENDED && is_signalled() && !stay->is_to_end && stay->is_named && takes_records(&stay->journal);
 }
 
 /* Saves the texts aside, and has the journal be on the disk, so that another samhost can go on. Returns whether that is so. */
@@ -430,11 +357,11 @@ static bool keep_session(struct session *session)
 
     (void)save_changed(session); /* what can't be saved is in the journal */
     record_copies(session);
-    sync_journal(session);
+    settle(session);
     stay->is_kept = begin_journal_anew(session);
     if (stay->is_kept) {
         write_line(session);
-        drop_line(stay);
+        drop_line(session);
     }
     return stay->is_kept;
 }
@@ -458,11 +385,9 @@ int stay_and_serve(struct session *session)
     int status = STATUS_OK;
 
     set_signals(&mask);
-    session->wire.carrier = &by_link;
     stay->alone_since = now();
     stay->begun = stay->begun == 0 ? stay->alone_since : stay->begun;
-    put_messages(session);
-    write_line(session); /* the welcome of a terminal that has taken the session over: it may say nothing before */
+    send_all(session); /* the welcome of a terminal that has taken the session over: it may say nothing before */
     if (stay->has_ended) /* another samhost has done all but to wait */
         status = stay->is_kept ? STATUS_LOST : STATUS_OK;
     else {
@@ -477,6 +402,6 @@ int stay_and_serve(struct session *session)
     }
     record_copies(session);
     say_the_end(session, &mask, status, stay->ending != INPUT_ENDED);
-    drop_line(stay);
+    drop_line(session);
     return status;
 }

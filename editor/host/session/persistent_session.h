@@ -13,9 +13,9 @@
 #include "session/ending.h"
 #include "session/messages.h"
 #include "session/session_directory.h"
+#include "session/wished.h"
 #include "sulgrevad.h"
 
-struct replay;
 struct session;
 
 /* Bytes between a connection and the link. */
@@ -28,8 +28,8 @@ struct piece {
 struct stay {
     struct home home; /* without a folder where the session ends with its line */
     bool has_streams; /* its line is standard input and output, and it ends with that */
-    sam_link link;    /* empty before the first hello */
     uint8_t id[SAM_LINK_ID_BYTES];
+    bool is_named; /* a terminal has come, so the id is its session's */
     int listener;
     struct caller callers[MOST_CALLERS];
     struct waiter waiters[MOST_WAITERS];
@@ -37,17 +37,14 @@ struct stay {
     int line_out; /* the same, as bytes go over it */
     uint64_t attempt;
     struct piece in, out;
-    bool is_short; /* memory is out for what was read */
+    struct scan scan;
+    bool is_short;  /* memory is out for what was read, or for what follows from it */
+    bool is_done;   /* what the server asks for is done, and only to be noted as that */
     struct messages messages;
     struct journal journal;
-    struct replay *replay;            /* NULL but while it is made again */
     enum ending ending;               /* why it ends */
     enum ending broken;               /* LINE_BROKE or FAULT: what its standard streams came to; GOES_ON before that */
     struct session *heir;             /* what another terminal has made of the session; else NULL */
-    uint8_t note[SAM_LINK_MOST_NOTE]; /* of the terminal, that is to be done */
-    size_t note_len;
-    bool has_note;
-    bool is_answering; /* that is being done, and messages wait for it */
     bool has_ended;    /* the last message is put */
     bool is_again;     /* it was made again of its journal */
     bool is_to_end;    /* somebody has asked for its end */
@@ -56,12 +53,17 @@ struct stay {
     int64_t gone; /* since when a terminal is known to be gone of which memory is out for the last bytes; else 0 */
 };
 
-/* Before a file is written, which may take long: has the disk have all records, so that a power cut leaves no file newer than its session,
- * and sends what is due. */
+/* Before a file is written, which may take long: sends what is due. */
 void flush_line(struct session *session);
 
 /* Tells the terminal that another one, on this machine, has the session now, as far as its line takes that without waiting. */
 void say_the_last(struct session *session, const char *machine);
+
+/* The server takes no more of what comes over the newest connection, for a reason. */
+void break_line(struct session *session, sam_status why);
+
+/* Forgets what has come or was to go over a connection that is over. */
+void forget_pieces(struct stay *stay);
 
 /* Serves a session over its link until it ends. Returns the exit status. */
 int stay_and_serve(struct session *session);

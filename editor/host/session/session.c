@@ -1,6 +1,7 @@
 /* session.c: the files of a session, from its begin to its end. */
 #define _XOPEN_SOURCE 700
 #include <stdlib.h>
+#include <string.h>
 #include <sys/stat.h>
 
 #include "session/session.h"
@@ -14,13 +15,31 @@
 #include "session/document.h"
 #include "session/ending.h"
 #include "session/messages.h"
+#include "session/persistent_session.h"
 #include "sulgrevad.h"
+
+bool is_closing(struct session *session, uint16_t tag)
+{
+    sam_effect effect;
+
+    return sam_server_next_effect(session->server, &effect) == SAM_OK && effect.kind == SAM_EFFECT_CLOSE && effect.tag == tag;
+}
 
 size_t count_tags(struct session *session)
 {
     size_t tags = 0;
 
-    return sam_host_tags(&session->host, &tags) == SAM_OK ? tags : 0;
+    return sam_server_tags(session->server, &tags) == SAM_OK ? tags : 0;
+}
+
+sam_status add_to_server(struct session *session, const char *name, const struct text *text, uint16_t *tag)
+{
+    size_t next = count_tags(session);
+    sam_status code = sam_server_add_file(session->server, (const uint8_t *)name, strlen(name), text->bytes, text->len, tag);
+
+    if (code == SAM_UNFINISHED) /* it has joined */
+        *tag = (uint16_t)next;
+    return code == SAM_UNFINISHED ? SAM_OK : code == SAM_WAITING ? SAM_NO_MEMORY : code;
 }
 
 bool is_hidden(const struct session *session, size_t tag)
@@ -43,6 +62,13 @@ bool tell_hidden(struct session *session)
     return true;
 }
 
+bool tell_hidden_again(struct session *session)
+{
+    for (size_t tag = 1, tags = count_tags(session); tag < tags; tag++)
+        session->documents[tag].is_told_of = false;
+    return tell_hidden(session);
+}
+
 static mode_t mode_of_new_files(void)
 {
     mode_t mask = umask(0);
@@ -57,14 +83,16 @@ bool make_session(struct session *session)
     session->text.bytes = malloc(MOST_BYTES);
     session->mode_of_new_files = mode_of_new_files();
     bool has_room = session->documents != NULL && session->text.bytes != NULL && make_cut(&session->cut);
-    return has_room && sam_host_new(&session->host) == SAM_OK;
+    session->server = calloc(1, sizeof *session->server);
+    return has_room && session->server != NULL;
 }
 
 void free_session(struct session *session)
 {
-    size_t tags = count_tags(session);
+    size_t tags = session->server == NULL ? 0 : count_tags(session);
 
-    sam_host_free(&session->host);
+    (void)sam_server_free(session->server);
+    free(session->server);
     for (size_t tag = 0; tag < tags; tag++)
         free_document(&session->documents[tag]);
     free(session->documents);
@@ -76,7 +104,7 @@ void free_session(struct session *session)
 
 int open_session(struct session *session, char **paths, int count, const struct options *options)
 {
-    if (!make_session(session)) {
+    if (!make_session(session) || sam_server_new(session->server, session->stay->id) != SAM_OK) {
         say("out of memory");
         return STATUS_MEMORY;
     }

@@ -18,18 +18,16 @@ struct document;
 struct stay;
 
 struct session {
-    sam_host host;
+    sam_server *server;
     uint16_t vault;             /* the tag of the file for undo; 0 where there is none */
     struct document *documents; /* ALL_TAGS of them */
     bool has_unmarked;          /* some of them may be to be marked as dirty */
     struct text text;           /* room for one text (MOST_BYTES) */
     struct closed *closed;
     struct cut cut;
-    bool has_open;      /* the terminal has opened a file */
     bool is_met;        /* a terminal has said more than its first words, so it has heard something; or has taken over what another had */
     int64_t watched_at; /* when files were looked at last */
     bool is_lost;       /* a text of a closed file could neither be saved nor held in memory, or what came last could not be taken */
-    struct wire wire;
     struct due due;
     mode_t mode_of_new_files;
     char *lost_folder; /* the one in which it began, where that is gone and the session only ends; else NULL */
@@ -57,10 +55,19 @@ int close_session(struct session *session, enum ending ending);
 /* How many tags the host has given; 0 where there is no host. */
 size_t count_tags(struct session *session);
 
+/* Whether the terminal has closed the file just now while it was changed, and the server still lends its name and its text. */
+bool is_closing(struct session *session, uint16_t tag);
+
+/* Adds a file to the server, and hands out its tag. */
+sam_status add_to_server(struct session *session, const char *name, const struct text *text, uint16_t *tag);
+
 /* Whether a file is none of the user's. */
 bool is_hidden(const struct session *session, size_t tag);
 
 /* Tells the terminal which files are hidden, as far as it was not. Returns whether there is memory for that. */
 bool tell_hidden(struct session *session);
+
+/* The same of all of them, for a terminal that has heard nothing. */
+bool tell_hidden_again(struct session *session);
 
 #endif

@@ -42,10 +42,10 @@ static bool is_handed_on(struct session *session, size_t tag)
 {
     bool has = false;
 
-    return !is_hidden(session, tag) && sam_host_has_file(&session->host, (uint16_t)tag, &has) == SAM_OK && has;
+    return !is_hidden(session, tag) && sam_server_has_file(session->server, (uint16_t)tag, &has) == SAM_OK && has;
 }
 
-/* Gives the new host the names and texts of the old one, in their order. Returns whether there is memory for them. */
+/* Gives the new server the names and texts of the old one, in their order. Returns whether there is memory for them. */
 static bool copy_files(struct session *session, struct session *heir)
 {
     size_t tags = count_tags(session);
@@ -57,9 +57,9 @@ static bool copy_files(struct session *session, struct session *heir)
         if (!is_handed_on(session, old))
             continue;
         if (take_text(session, (uint16_t)old) != 0 ||
-            sam_host_name(&session->host, (uint16_t)old, (uint8_t *)name, NAME_ROOM, &len) != SAM_OK)
+            sam_server_name(session->server, (uint16_t)old, (uint8_t *)name, NAME_ROOM, &len) != SAM_OK)
             return false;
-        if (sam_host_add_file(&heir->host, (const uint8_t *)name, len, session->text.bytes, session->text.len, &tag) != SAM_OK)
+        if (sam_server_add_file(heir->server, (const uint8_t *)name, len, session->text.bytes, session->text.len, &tag) != SAM_OK)
             return false;
     }
     return (session->vault == 0 || add_vault(heir) == STATUS_OK) && tell_hidden(heir);
@@ -77,7 +77,6 @@ static void hand_documents(struct session *session, struct session *heir)
         struct document *document = &heir->documents[next];
         *document = session->documents[old];
         session->documents[old] = (struct document){0};
-        document->is_open = false;
         document->watch = (struct watch){0}; /* the new terminal is told, too */
         document->is_taken = is_unsaved;
         if (is_unsaved)
@@ -101,7 +100,7 @@ static void hand_stay(struct session *session, struct session *heir, struct call
 
     name_machine(machine);
     say_the_last(session, machine);
-    drop_line(stay);
+    drop_line(session);
     next->line = next->line_out = caller->socket;
     caller->socket = -1;
     next->listener = stay->listener;
@@ -115,24 +114,9 @@ static void hand_stay(struct session *session, struct session *heir, struct call
 
 /* ---- The folder ---- */
 
-/* Writes the journal of the new session in the place of the old one's. Where that can't be it is held, and none is there: a journal that
- * nobody writes would bring an older text back. */
-static void put_journal(struct session *session, struct session *heir, const struct caller *caller)
-{
-    const struct home *home = &heir->stay->home;
-
-    close_journal(&session->stay->journal);
-    make_journal(heir, NEW_JOURNAL);
-    record_start(heir);
-    add_record(heir, STEP_HELLO, caller->bytes, caller->len);
-    sync_journal(heir);
-    if (heir->stay->journal.file >= 0 && renameat(home->folder, NEW_JOURNAL, home->folder, JOURNAL) != 0)
-        hold_journal(heir, errno);
-}
-
 /* Writes the journal of the new session, and names its folder by its link. Both names lead to the folder from the first step on, so a kill
  * between two of them, or a folder that can't be named anew, keeps no terminal from it. */
-static void name_anew(struct session *session, struct session *heir, const struct caller *caller)
+static void name_anew(struct session *session, struct session *heir)
 {
     struct home *home = &heir->stay->home;
     char name[NAME_DIGITS + 1];
@@ -140,7 +124,8 @@ static void name_anew(struct session *session, struct session *heir, const struc
     name_of_id(heir->stay->id, name);
     write_names(home, home->name, name);
     sync_home(home);
-    put_journal(session, heir, caller);
+    close_journal(&session->stay->journal);
+    begin_fresh_journal(heir);
     int error = rename_home(home, name);
     if (error != 0)
         say("the folder of session %s can't be named anew: %s; it is found all the same", home->name, cause(error));
@@ -151,7 +136,7 @@ static void name_anew(struct session *session, struct session *heir, const struc
 /* ---- All of it ---- */
 
 /* Makes the new session, as far as it takes memory. NULL where that is out, or where its link refuses. */
-static struct session *make_heir(struct session *session, const struct caller *caller, const uint8_t *id, uint32_t *code)
+static struct session *make_heir(struct session *session, const struct caller *caller, const uint8_t *id, sam_status *code)
 {
     struct session *heir = make_staying(&session->stay->home, session->stay->longest_alone);
 
@@ -159,10 +144,12 @@ static struct session *make_heir(struct session *session, const struct caller *c
     if (heir == NULL)
         return NULL;
     memcpy(heir->stay->id, id, SAM_LINK_ID_BYTES);
-    if (make_session(heir) && copy_files(session, heir))
-        *code = sam_link_new(&heir->stay->link, SAM_LINK_HOST, id);
+    if (make_session(heir))
+        *code = sam_server_new(heir->server, id);
     if (*code == SAM_OK)
-        *code = sam_link_answer(&heir->stay->link, caller->bytes, caller->len);
+        *code = copy_files(session, heir) ? sam_server_accept(heir->server, caller->bytes, caller->len) : SAM_NO_MEMORY;
+    if (*code == SAM_UNFINISHED)
+        *code = SAM_OK;
     if (*code == SAM_OK && !put_first_message(heir))
         *code = SAM_NO_MEMORY;
     if (*code == SAM_OK)
@@ -174,21 +161,21 @@ static struct session *make_heir(struct session *session, const struct caller *c
 
 uint32_t take_over(struct session *session, struct caller *caller, const uint8_t *id, uint64_t attempt)
 {
-    uint32_t code = SAM_NO_MEMORY;
-
+    sam_status code = SAM_NO_MEMORY;
     const struct stay *stay = session->stay;
 
     if (stay->ending != GOES_ON || stay->has_ended || stay->is_to_end) /* it waits for its terminal to hear of its end */
         return SAM_LINK_NO_SESSION;
-    struct session *heir = session->wire.is_short || session->stay->has_note ? NULL : make_heir(session, caller, id, &code);
+    struct session *heir = session->stay->is_short ? NULL : make_heir(session, caller, id, &code);
 
     if (heir == NULL)
         return code;
     hand_documents(session, heir);
     hand_stay(session, heir, caller);
     heir->stay->attempt = attempt;
+    heir->stay->is_named = true;
     listen_for_messages(heir);
-    name_anew(session, heir, caller);
+    name_anew(session, heir);
     (void)save_cut(session, false);
     report_taken(heir);
     record_copies(heir);

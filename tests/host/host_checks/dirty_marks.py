@@ -6,7 +6,7 @@ import signal
 from checks import wait_until
 from sulgrevad import NoteCode
 
-from .journals import DONE, kill, records_of
+from .journals import DONE, kill, kinds_of, records_of
 from .line import Staying, home_of, is_running, pid_of, with_calls
 from .support import expect_equal, made, text_of
 
@@ -88,12 +88,12 @@ def killed_at_a_write(place, session, records_left):
     session.terminal.write(1)
     session.send()
     pid = pid_of(place, session.name)
-    wait_until(lambda: DONE in {kind for _, kind in records_of(journal.read_bytes())[0]}, "no write is noted")
+    wait_until(lambda: DONE in kinds_of(journal.read_bytes()), "no write is noted")
     os.kill(pid, signal.SIGKILL)
     wait_until(lambda: not is_running(pid), "it still runs")
     data = journal.read_bytes()
     records, end = records_of(data)
-    at = next(number for number, (_, kind) in enumerate(records) if kind == DONE)
+    at = next(number for number, (_, kind) in enumerate(records) if DONE in kind)
     ends = [start for start, _ in records] + [end]
     journal.write_bytes(data[: ends[(at, at + 1, -1)[records_left]]])
     session.drop()

@@ -2,7 +2,7 @@
 from checks import expect, wait_until
 from sulgrevad import NoteKind
 
-from .journals import HELLO, kill, records_of
+from .journals import BEGUN, HELLO, kill, kinds_of, records_of
 from .line import Staying, home_of
 from .support import expect_equal, made, names_in
 
@@ -53,11 +53,11 @@ def check_first_messages_through_a_kill(folder):
     with Staying(folder, "a.txt", options=("--undo",), begin=False) as session:
         journal = home_of(folder, session.name) / "journal"
         session.give()
-        wait_until(lambda: journal.exists() and HELLO in {kind for _, kind in records_of(journal.read_bytes())[0]}, "it hears no hello")
+        wait_until(lambda: journal.exists() and HELLO in kinds_of(journal.read_bytes()), "it hears no hello")
         kill(folder, session)
         data = journal.read_bytes()
         records, end = records_of(data)
-        at = next(number for number, (_, kind) in enumerate(records) if kind == HELLO)
+        at = next(number for number, (_, kind) in enumerate(records) if BEGUN in kind)
         journal.write_bytes(data[: ([start for start, _ in records] + [end])[at + 1]])
         session.drop()
         session.begin()

@@ -20,8 +20,11 @@ from .support import SAMHOST, expect_equal, made, names_in, text_of
 
 HEAD = 24  # bytes of a journal before its first record
 FRONT, BACK = 24, 4  # bytes of a record before its body, and behind it
-FORM_AND_SUM = (3, "558a30b69fda1b95")  # of the records, and of the code that makes and reads them
-HELLO, UP, DOWN, DONE = 4, 5, 6, 9  # kinds of records: a connection, bytes that came, bytes that the host said, a file that was written
+FORM_AND_SUM = (4, "93bd16196b24cd64")  # of the records, and of the code that makes and reads them
+START, SERVER, BEGUN, KNOWN, CUT, WANTED, ANSWERED, HELD, FREED, ENDED = 1, *range(32, 41)  # kinds of entries of a record
+FILE, HELLO, UP, SAID, DONE, MARKED = ("file", "hello", "up", "said", "done", "marked")  # kinds of records of the server
+SERVERS = {1: FILE, 2: HELLO, 3: UP, 4: SAID, 7: DONE, 8: MARKED}
+SYNCED = "synced"  # a record that says how much is on the disk
 
 
 def kill(folder, session):
@@ -50,16 +53,44 @@ def killed(folder):
         yield session
 
 
+def kinds_in(body):
+    """The kinds of entries that a record has."""
+    kinds, at = set() if body else {SYNCED}, 0
+    while at < len(body):
+        kind = body[at]
+        kinds.add(kind)
+        if kind == START:
+            at = 1 + 8
+            at += 8 + struct.unpack(">Q", body[at : at + 8])[0] + 32 + 16
+            continue
+        length = struct.unpack(">Q", body[at + 1 : at + 9])[0]
+        if kind == SERVER:
+            kinds.add(SERVERS.get(body[at + 9]))
+        at += 9 + length
+    return kinds
+
+
 def records_of(journal):
-    """Where the records of a journal begin, with their kinds; and where they end."""
+    """Where the records of a journal begin, with the kinds of what they have; and where they end."""
     found, at = [], HEAD
     while at + FRONT + BACK <= len(journal):
         length = struct.unpack(">I", journal[at + 8 : at + 12])[0]
         if at + FRONT + length + BACK > len(journal):
             break
-        found.append((at, journal[at + FRONT]))
+        found.append((at, kinds_in(journal[at + FRONT : at + FRONT + length])))
         at += FRONT + length + BACK
     return found, at
+
+
+def form_end(journal):
+    """Where the form and the version end in the body of the first record."""
+    at = HEAD + FRONT + 1 + 8
+    return 1 + 8 + 8 + struct.unpack(">Q", journal[at : at + 8])[0] + 32
+
+
+def kinds_of(journal):
+    """The kinds of all that a journal has."""
+    return set().union(*(kinds for _, kinds in records_of(journal)[0]))
 
 
 def durable_of(journal, at):
@@ -122,7 +153,7 @@ def check_journal_knows_copies(folder):
         copies = ["a.txt.sam-saved", "cut.sam-saved"]
         wait_until(lambda: [name for name in names_in(folder) if "sam-" in name] == copies, "no copies are there")
         journal = home_of(folder, session.name) / "journal"
-        wait_until(lambda: {10, 11} <= {kind for _, kind in records_of(journal.read_bytes())[0]}, "they are not in the journal")
+        wait_until(lambda: {KNOWN, CUT} <= kinds_of(journal.read_bytes()), "they are not in the journal")
         kill(folder, session)
         session.type("three\n")
         wait_until(lambda: text_of(folder / "a.txt.sam-saved") == "two\nthree\n", "the copy isn't replaced")
@@ -248,7 +279,7 @@ def check_journal_of_another_version(folder):
             elif what == "first format":  # it had the library's version there, and records with other heads
                 data = data[:8] + struct.pack(">II", 1, 256) + struct.pack(">IB", 0, 3) + bytes(4) + data[HEAD:]
             else:
-                data = with_turned(data, HEAD, -1 if what == "library" else -5)
+                data = with_turned(data, HEAD, form_end(data) - (1 if what == "library" else 5))
             journal.write_bytes(data)
             session.drop()
             session.attach()
@@ -277,16 +308,17 @@ def check_form_of_records(folder):
 def check_journal_that_differs(folder):
     """Where the journal has another answer than samhost gives now, nothing is sent; that is told, and the texts are saved aside."""
     with typed(folder) as session:
+        session.type("three\n")
         kill(folder, session)
         journal = home_of(folder, session.name) / "journal"
         data = journal.read_bytes()
-        at = [at for at, kind in records_of(data)[0] if kind == DOWN][-1]  # what the host has said last
-        journal.write_bytes(with_turned(data, at, 1))
+        at = [at for at, _ in records_of(data)[0] if at < data.index(b"three\n")][-1]
+        journal.write_bytes(with_turned(data, at, 9 + 8))  # it came over another connection
         session.drop()
         session.attach()
         expect_equal((session.refusal(), session.wait()), (What.NO_SESSION, 7), "the answer, and the status")
         said = session.process.stderr.read().decode()
-        expect("its journal has other answers than samhost gives now" in said, f"it says {said!r}")
+        expect("its journal has records that lead nowhere" in said, f"it says {said!r}")
     expect_equal(text_of(folder / "a.txt.sam-saved"), "one\ntwo\n", "the copy")
 
 
@@ -394,7 +426,7 @@ def check_journal_before_acknowledgements(folder):
             session.type("three\n")
             tracer.terminate()
         forms = {
-            r"writev\(\d+, \[\{iov_base=\"(\\x..){24}\", iov_len=24\}, \{iov_base=\"\\x05": "up",
+            r"writev\(\d+, \[\{iov_base=\"(\\x..){24}\", iov_len=24\}, \{iov_base=\"\\x20(\\x..){8}\\x03": "up",
             r"fdatasync\(": "on disk",
             r"sendto\(.*\\x03\\x00\\x08": "acknowledged",
         }

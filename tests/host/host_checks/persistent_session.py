@@ -14,7 +14,7 @@ import sulgrevad
 from checks import GIVEN_UP, SECONDS, Skipped, expect, times_longer, wait_until
 from link_model import HELLO_BYTES, Read, What, read_whole, spelled
 
-from .journals import UP, kill, records_of, typed
+from .journals import UP, kill, kinds_of, records_of, typed
 from .line import Staying, home_of, is_running, pid_of, state_of, with_calls
 from .support import IDLE, IS_ROOT, LATE, NOBODY, SAMHOST, expect_equal, front_of, made, names_in, text_of
 
@@ -181,7 +181,7 @@ def is_served(folder, session):
 
 def has_got(folder, session):
     """Whether the journal has bytes that came over the link."""
-    return UP in {kind for _, kind in records_of((home_of(folder, session.name) / "journal").read_bytes())[0]}
+    return UP in kinds_of((home_of(folder, session.name) / "journal").read_bytes())
 
 
 def check_stays_unmet_a_minute(folder):

@@ -8,12 +8,12 @@ from checks import expect, wait_until
 from link_model import What
 
 from .journal_faults import AGAIN
-from .journals import kill, killed, records_of, typed
+from .journals import KNOWN, kill, killed, kinds_of, typed
 from .line import Staying, home_of, is_running, pid_of, state_of, with_calls
 from .support import IDLE, expect_equal, made, names_in, text_of
 
 RENAMES = "renameat,renameat2"  # calls of the system that rename the journal, and then the folder
-RECORDS = 8  # calls that write the new journal: its head, its begin and two syncs
+RECORDS = 7  # calls that write the new journal: its head, its begin and two syncs
 
 
 def names_of(session):
@@ -167,7 +167,7 @@ def alone(folder, old):
     old.type("two\n")
     old.drop()
     wait_until(lambda: text_of(folder / "a.txt.sam-saved") == "one\ntwo\n", "it isn't saved aside")
-    wait_until(lambda: 10 in {kind for _, kind in records_of((home_of(folder, old.name) / "journal").read_bytes())[0]}, "it isn't noted")
+    wait_until(lambda: KNOWN in kinds_of((home_of(folder, old.name) / "journal").read_bytes()), "it isn't noted")
     return pid_of(folder, old.name)
 
 

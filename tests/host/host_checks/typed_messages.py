@@ -7,11 +7,11 @@ import sulgrevad
 from checks import expect, wait_until
 from sulgrevad import NoteCode, NoteKind
 
-from .journals import kill, records_of
+from .journals import DONE, kill, kinds_of, records_of
+from .journals import SAID as NOTE
 from .line import Staying, home_of, is_running, pid_of
 from .support import OPEN, SAMHOST, WRITE, Session, expect_equal, made, message, on_file, run_host, text_of, typed
 
-DONE, NOTE = 9, 7  # kinds of a journal's records
 
 
 def asked_to_write(session, request, tag=1):
@@ -97,13 +97,13 @@ def check_typed_answers_through_kills(folder):
             session.terminal.write(1)
             session.send()
             pid = pid_of(place, session.name)
-            wait_until(lambda: DONE in {kind for _, kind in records_of(journal.read_bytes())[0]}, "it isn't written")
+            wait_until(lambda: DONE in kinds_of(journal.read_bytes()), "it isn't written")
             os.kill(pid, signal.SIGKILL)
             wait_until(lambda: not is_running(pid), "it still runs")
             data = journal.read_bytes()
             records = records_of(data)[0]
-            at = next(number for number, (_, kind) in enumerate(records) if kind == DONE)
-            note = next((number for number, (_, kind) in enumerate(records) if kind == NOTE and number > at), None)
+            at = next(number for number, (_, kind) in enumerate(records) if DONE in kind)
+            note = next((number for number, (_, kind) in enumerate(records) if NOTE in kind and number > at), None)
             ends = [start for start, _ in records] + [records_of(data)[1]]
             if records_left == 2 and note is None:
                 records_left = 1  # it was killed in between

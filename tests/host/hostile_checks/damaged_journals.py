@@ -5,13 +5,12 @@ import struct
 import subprocess
 
 from checks import GIVEN_UP, Skipped, expect, times_slower, wait_until
-from host_checks.journals import BACK, FRONT, HEAD, crc, durable_of, kill, records_of, spelled, typed
+from host_checks.journals import BACK, BEGUN, DONE, FRONT, HEAD, SYNCED, crc, durable_of, kill, records_of, spelled, typed
 from host_checks.line import Staying, home_of
 from host_checks.power import seconds_of_children
 from host_checks.support import SAMHOST, expect_equal, made, names_in, text_of
 from link_model import What
 
-BEGUN, SYNCED = 3, 12  # kinds of records before which all stands with which a session began, and all that was on the disk
 MOST_SECONDS = 3.0  # of the processor, for a journal that claims much
 
 
@@ -31,7 +30,7 @@ class Killed:
         self.journal = self.files["journal"]
         records, end = records_of(self.journal)
         self.records = [(at, kind, after) for (at, kind), (after, _) in zip(records, [*records[1:], (end, 0)])]
-        self.synced = max(at for at, kind, _ in self.records if kind == SYNCED)  # before this all was on the disk
+        self.synced = max(at for at, kind, _ in self.records if SYNCED in kind)  # before this all was on the disk
 
     def restore(self, journal):
         shutil.rmtree(self.home, ignore_errors=True)
@@ -54,7 +53,7 @@ def check_damaged_in_the_front_or_the_middle(folder):
     """One wrong bit, wherever it is in what was on the disk: --end says so, its status is not 0, the journal stays beside as journal.wrong,
     and what is known is saved aside."""
     killed = Killed(folder)
-    begun = next(after for _, kind, after in killed.records if kind == BEGUN)
+    begun = next(after for _, kind, after in killed.records if BEGUN in kind)
     saved = set()
     for at, _, after in killed.records:
         if at >= killed.synced:
@@ -111,7 +110,7 @@ def check_damaged_writes_no_file(folder):
         path.write_text("one\n")  # as it was before the session: nothing shows that somebody put that there
         journal = home_of(folder, session.name) / "journal"
         data = bytearray(journal.read_bytes())
-        at = next(at for at, kind in records_of(bytes(data))[0] if kind == 9)
+        at = next(at for at, kind in records_of(bytes(data))[0] if DONE in kind)
         data[at + 8] ^= 1
         journal.write_bytes(data)
         session.abandon()
@@ -128,7 +127,7 @@ def check_damaged_behind_the_last_sync(folder):
         kill(folder, session)
         journal = home_of(folder, session.name) / "journal"
         data = journal.read_bytes()
-        synced = max(at for at, kind in records_of(data)[0] if kind == SYNCED)
+        synced = max(at for at, kind in records_of(data)[0] if SYNCED in kind)
         count = len(records_of(data[:synced])[0]) + 1
         lost = spelled(data, count, synced, b"\5never acknowledged")
         whole = spelled(data, count + 1, synced, b"\5nor this")

@@ -1,0 +1,23 @@
+/* turns.h: has the server of a session take what has come, and does what it asks for. */
+#ifndef SAMHOST_SESSION_TURNS_H
+#define SAMHOST_SESSION_TURNS_H
+
+#include <stdbool.h>
+
+#include "session/ending.h"
+
+struct session;
+
+/* Has the server take what was read, as far as there is memory, and does what it asks for. Returns why the session ends, if it does. */
+enum ending take_turns(struct session *session);
+
+/* The same for what memory was out for. What can't be taken in a while is lost. */
+enum ending take_again(struct session *session, int *tries);
+
+/* Has the server take what was read, for the counts of its link, once nothing is done any more. */
+void take_no_more(struct session *session);
+
+/* Says that what came last from the terminal is lost, since memory is out. */
+void lose_the_last(struct session *session);
+
+#endif
