@@ -142,8 +142,8 @@ static void free_closed(struct closed *closed)
     free(closed);
 }
 
-/* Tries the texts again that could not be saved when their files were closed. The last time what can't be saved is lost; else it is held
- * on. Returns whether all are saved. */
+/* Tries the texts again that could not be saved when their files were closed. What can't be saved is held on; the last time it is lost, but
+ * that a journal keeps it. Returns whether all are saved. */
 static bool save_closed(struct session *session, bool is_last)
 {
     struct closed **next = &session->closed;
@@ -163,14 +163,15 @@ static bool save_closed(struct session *session, bool is_last)
             tell_lost(closed->tag, closed->name, error);
         all &= error == 0;
         free(copy.path);
-        if (error == 0 || is_last) {
+        if (error == 0)
             record_freed(session, place);
+        else
+            place++;
+        if (error == 0 || is_last) {
             *next = closed->next;
             free_closed(closed);
-        } else {
+        } else
             next = &closed->next;
-            place++;
-        }
     }
     return all;
 }
@@ -205,6 +206,8 @@ bool is_changed(struct session *session, uint16_t tag)
         return false;
     if (!has_file(session, tag))
         return is_closing(session, tag);
+    if (session->is_cut_off)
+        return true;
     return sam_server_is_dirty(session->server, tag, &is_dirty) != SAM_OK || is_dirty || session->documents[tag].is_unmarked;
 }
 
@@ -321,34 +324,37 @@ bool add_closed(struct session *session, uint16_t tag, const char *name, const s
     return true;
 }
 
-/* Holds a text that is tried again later, and at the end. */
-static void hold_closed(struct session *session, uint16_t tag, const char *name)
+/* Holds a text that is tried again later, and at the end. Returns whether there is memory for it. */
+static bool hold_closed(struct session *session, uint16_t tag, const char *name)
 {
-    if (take_text(session, tag) == 0 && add_closed(session, tag, name, &session->text)) {
-        struct closed *last = session->closed;
-        while (last->next != NULL)
-            last = last->next;
-        record_held(session, last);
-        return;
-    }
-    tell_lost(tag, name, ENOMEM);
-    session->is_lost = true;
+    if (take_text(session, tag) != 0 || !add_closed(session, tag, name, &session->text))
+        return false;
+    struct closed *last = session->closed;
+    while (last->next != NULL)
+        last = last->next;
+    record_held(session, last);
+    return true;
 }
 
-void save_closing(struct session *session, uint16_t tag)
+bool save_closing(struct session *session, uint16_t tag)
 {
-    report_closing(session, tag);
+    enum place place;
     char *name = name_of(session, tag);
-    const char *known = name == NULL ? "a file" : name;
-    int error = save_for_good(session, tag, known);
+    int error = name == NULL ? ENOMEM : secure(session, tag, &place);
 
-    if (error != 0) {
-        tell(&(struct event){.kind = SAM_NOTE_ASIDE, .code = code_of(error), .tag = tag, .path = known},
-             "%s is closed, and its text can't be saved: %s", known, cause(error));
-        hold_closed(session, tag, known);
+    if (error == ENOMEM || (error != 0 && !hold_closed(session, tag, name))) {
+        free(name);
+        return false;
     }
+    if (error != 0)
+        tell(&(struct event){.kind = SAM_NOTE_ASIDE, .code = code_of(error), .tag = tag, .path = name},
+             "%s is closed, and its text can't be saved: %s", name, cause(error));
+    else if (place == ASIDE)
+        tell_aside(tag, name, session->documents[tag].aside.path);
     free(name);
+    report_closing(session, tag);
     record_document(session, tag);
+    return true;
 }
 
 void free_document(struct document *document)
@@ -374,7 +380,7 @@ void forget_closed(struct session *session, uint16_t tag)
 bool save_last(struct session *session, bool is_alone)
 {
     size_t tags = count_tags(session);
-    bool all = save_closed(session, true) && !session->is_lost;
+    bool all = save_closed(session, true) && !session->is_cut_off;
 
     for (size_t tag = 1; tag < tags; tag++) {
         if (!is_changed(session, (uint16_t)tag))

@@ -64,8 +64,11 @@ bool save_changed(struct session *session);
 /* Whether something that failed is to be tried once more: where memory is out, some times, and after a while. */
 bool is_tried_again(int error, int *tries);
 
-/* While the server lends the text of a file that was closed: saves it. Behind that: forgets the document of a file that is gone. */
-void save_closing(struct session *session, uint16_t tag);
+/* While the server lends the text of a file that was closed: saves it, or holds it where the disk refuses it. Returns whether there is
+ * memory for that. */
+bool save_closing(struct session *session, uint16_t tag);
+
+/* Behind that: forgets the document of a file that is gone. */
 void forget_closed(struct session *session, uint16_t tag);
 
 /* Holds the text of a closed file, which could not be saved; and lets the one at a place of the list go. */

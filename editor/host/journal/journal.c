@@ -85,7 +85,12 @@ void close_journal(struct journal *journal)
         close(journal->old);
     free(journal->held.bytes);
     free(journal->turn.bytes);
-    *journal = (struct journal){.file = -1, .lost = journal->lost, .damaged_at = journal->damaged_at};
+    *journal = (struct journal){.file = -1, .lost = journal->lost, .damaged_at = journal->damaged_at, .in_turn = journal->in_turn};
+}
+
+void drop_turn(struct journal *journal)
+{
+    journal->turn.len = journal->in_turn = 0;
 }
 
 void hold_journal(struct session *session, int error)
@@ -162,24 +167,26 @@ void add_entry(struct session *session, enum entry kind, struct body *body)
     free(body->bytes);
 }
 
-/* Takes records of the server into the next one. Returns how many. What there is no memory for stays with the server. */
-static size_t gather(struct session *session)
+/* Takes records of the server into the next one, up to MOST_IN_TURN. Returns whether there was memory for them: the others stay with the
+ * server. */
+static bool gather(struct session *session)
 {
-    struct body *turn = &session->stay->journal.turn;
-    size_t count = 0, len;
+    struct journal *journal = &session->stay->journal;
+    struct body *turn = &journal->turn;
+    size_t len;
 
     while (turn->len < MOST_IN_TURN && sam_server_record_len(session->server, &len) == SAM_OK) {
-        if (!has_room(turn, 9 + len)) {
+        if (!has_room(turn, ENTRY_HEAD + len)) {
             turn->is_short = false;
-            break;
+            return false;
         }
+        if (sam_server_next_record(session->server, turn->bytes + turn->len + ENTRY_HEAD, len, &len) != SAM_OK)
+            return false; /* can't be: there is room */
         add_entry_head(turn, ENTRY_SERVER, len);
-        if (sam_server_next_record(session->server, turn->bytes + turn->len, len, &len) != SAM_OK)
-            break; /* can't be: there is room */
         turn->len += len;
-        count++;
+        journal->in_turn++;
     }
-    return count;
+    return true;
 }
 
 void sync_journal(struct session *session)
@@ -198,22 +205,28 @@ void sync_journal(struct session *session)
 
 void settle(struct session *session)
 {
-    struct body *turn = &session->stay->journal.turn;
-    size_t count, all = 0;
-    bool has_some = turn->len > 0;
+    struct journal *journal = &session->stay->journal;
+    size_t count = 0;
+    bool has_some = false;
 
-    do {
-        count = gather(session);
-        has_some |= count > 0;
-        if (turn->len > 0)
-            put_record(session, turn->bytes, turn->len);
-        turn->len = 0;
-        all += count;
-    } while (count > 0);
+    while (!session->stay->is_done && gather(session) && (journal->turn.len > 0 || journal->in_turn > 0)) {
+        count += journal->in_turn;
+        put_record(session, journal->turn.bytes, journal->turn.len);
+        drop_turn(journal);
+        has_some = true;
+    }
     if (!has_some)
         return;
     sync_journal(session);
-    (void)!sam_server_durable(session->server, all); /* where it can't be on the disk the terminal is told */
+    (void)!sam_server_durable(session->server, count); /* where it can't be on the disk the terminal is told */
+}
+
+bool is_settled(struct session *session)
+{
+    const struct journal *journal = &session->stay->journal;
+    size_t len;
+
+    return journal->turn.len == 0 && journal->in_turn == 0 && sam_server_record_len(session->server, &len) != SAM_OK;
 }
 
 /* ---- The file ---- */
@@ -338,6 +351,13 @@ int cut_journal(struct stay *stay, const struct text *all, size_t len)
     return error;
 }
 
+int read_own_journal(const struct journal *journal, struct text *all)
+{
+    struct stat status;
+
+    return map_records(journal->file, all, &status);
+}
+
 void close_records(struct text *all)
 {
     if (all->bytes != NULL)
@@ -414,12 +434,12 @@ bool begin_journal_anew(struct session *session)
         return false;
     }
     sync_home(home);
-    struct journal anew = {.file = file, .random = journal->random, .count = journal->count, .len = journal->len, .durable = journal->len};
-    struct body turn = journal->turn;
+    struct journal anew = *journal;
     journal->turn = (struct body){0};
     close_journal(journal);
-    anew.turn = turn;
-    *journal = anew;
+    *journal = (struct journal){.file = file, .random = anew.random, .count = anew.count, .len = anew.len, .durable = anew.len};
+    journal->turn = anew.turn;
+    journal->in_turn = anew.in_turn;
     put_record(session, NULL, 0); /* that may be missing after a power cut */
     return journal->file >= 0;
 }

@@ -22,6 +22,7 @@ struct journal {
     uint64_t durable;    /* how many of these are on the disk */
     uint64_t damaged_at; /* where its whole records end before what was on the disk */
     struct body turn;    /* the entries of the next record */
+    size_t in_turn;      /* how many records of the server are among them */
     bool is_held;        /* the file can't be written: records wait in memory until another one takes all of them */
     int old;             /* while it is held, the file that has what stands before these; it has no name any more. -1 where there is none */
     struct body held;    /* these records; before them the head, where there is no old file */
@@ -60,6 +61,9 @@ bool has_journal(const struct home *home);
 int open_journal(struct stay *stay, struct text *all, sam_status *head);
 void close_records(struct text *all);
 
+/* The same of the journal that the session writes. */
+int read_own_journal(const struct journal *journal, struct text *all);
+
 /* Whether a session whose samhost is gone has been alone for longer than it may be, as its journal says. */
 bool is_left_alone(const struct home *home);
 
@@ -75,10 +79,17 @@ bool takes_records(const struct journal *journal);
 /* Puts an entry into the next record, and frees its body. */
 void add_entry(struct session *session, enum entry kind, struct body *body);
 
+enum { MOST_IN_TURN = 1 << 20 }; /* bytes of entries behind which a record ends */
+
 /* Has all that the server took, and what is known beside it since, be in the journal, and on the disk; and the server hear so. A kill leaves
- * all of it or nothing, unless it is more than MOST_IN_TURN. */
+ * all of it or nothing, unless it is more than MOST_IN_TURN. What is done for the server waits until that it is done is a record, too. */
 void settle(struct session *session);
-enum { MOST_IN_TURN = 1 << 20 };
+
+/* Whether it is so: no memory was out. */
+bool is_settled(struct session *session);
+
+/* The next record loses its entries: they are of a server that is none any more. */
+void drop_turn(struct journal *journal);
 
 /* Has all that was written be on the disk. */
 void sync_journal(struct session *session);

@@ -253,18 +253,22 @@ void record_start(struct session *session)
 void begin_fresh_journal(struct session *session)
 {
     const struct home *home = &session->stay->home;
+    struct journal *journal = &session->stay->journal;
+    bool was_held = journal->is_held;
+    int lost = journal->lost, tries = 0;
 
-    const struct journal *before = &session->stay->journal;
-    bool was_held = before->is_held;
-    int lost = before->lost;
-
-    close_journal(&session->stay->journal);
+    close_journal(journal);
     make_journal(session, NEW_JOURNAL);
     put_messages(session);
     record_start(session);
-    if (was_held && session->stay->journal.is_held)
-        session->stay->journal.lost = lost; /* else it was told */
-    if (session->stay->journal.file >= 0 && renameat(home->folder, NEW_JOURNAL, home->folder, JOURNAL) != 0)
-        hold_journal(session, errno);
+    while (!is_settled(session) && is_tried_again(ENOMEM, &tries))
+        settle(session);
+    int error = !is_settled(session) ? ENOMEM : 0;
+    if (error == 0 && journal->file >= 0 && renameat(home->folder, NEW_JOURNAL, home->folder, JOURNAL) != 0)
+        error = errno;
+    if (error != 0 && journal->file >= 0)
+        hold_journal(session, error);
+    if (was_held && journal->is_held)
+        journal->lost = lost; /* it was told, if it is 0 */
     sync_home(home);
 }

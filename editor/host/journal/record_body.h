@@ -21,6 +21,8 @@ enum entry {
     ENTRY_ENDED        /* the last message is said; the exit status */
 };
 
+enum { ENTRY_HEAD = 9 }; /* bytes before the body of an entry: its kind, and the length in eight */
+
 /* The body of a record that is made. */
 struct body {
     uint8_t *bytes;

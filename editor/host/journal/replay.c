@@ -18,12 +18,12 @@
 #include "journal/journal_records.h"
 #include "limits.h"
 #include "log.h"
+#include "net/handshake.h"
 #include "session/dirty_marks.h"
 #include "session/document.h"
 #include "session/messages.h"
 #include "session/persistent_session.h"
 #include "session/session.h"
-#include "session/wished.h"
 #include "sulgrevad.h"
 
 /* A session that is being made again. */
@@ -32,9 +32,9 @@ struct replay {
     sam_recovery recovery;
     size_t taken, most; /* records of the server: how many were taken, and how many there are */
     bool is_again;      /* all else is known */
-    bool has_begun;  /* all of its first files are there */
-    bool is_other;   /* another version of the library has written it */
-    bool is_damaged; /* what was done behind its end is not known */
+    bool has_begun;     /* all of its first files are there */
+    bool is_other;      /* another version of the library has written it */
+    bool is_damaged;    /* what was done behind its end is not known */
     enum replay_fault fault;
 };
 
@@ -100,8 +100,6 @@ static void take_server_record(struct replay *replay, const struct record *recor
 
     if (code != SAM_OK)
         replay->fault = code == SAM_NO_MEMORY ? REPLAY_SHORT : REPLAY_DIFFERS;
-    else
-        wished_scan_record(replay->session, record->body, record->len);
     replay->taken += code == SAM_OK;
 }
 
@@ -231,6 +229,30 @@ static void make_known(const struct replay *replay, const struct text *all)
     if (again.fault == REPLAY_OK)
         finish_server(&again);
     (void)sam_recovery_free(&again.recovery);
+}
+
+bool begin_server_again(struct session *session)
+{
+    struct replay again = {.session = session, .most = SIZE_MAX, .is_again = true};
+    struct text all = {0};
+    sam_server *server = calloc(1, sizeof *server);
+    bool is_made = server != NULL && begin_journal_anew(session) && read_own_journal(&session->stay->journal, &all) == 0;
+
+    if (is_made)
+        (void)replay_all(&again, &all);
+    is_made = is_made && again.fault == REPLAY_OK && sam_recovery_finish(&again.recovery, server) == SAM_OK;
+    (void)sam_recovery_free(&again.recovery);
+    close_records(&all);
+    if (!is_made) {
+        free(server);
+        return false;
+    }
+    drop_line(session);
+    (void)sam_server_free(session->server);
+    free(session->server);
+    session->server = server;
+    drop_turn(&session->stay->journal);
+    return true;
 }
 
 /* What there is of a journal of which the library says this. */

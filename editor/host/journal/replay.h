@@ -2,6 +2,8 @@
 #ifndef SAMHOST_JOURNAL_REPLAY_H
 #define SAMHOST_JOURNAL_REPLAY_H
 
+#include <stdbool.h>
+
 struct session;
 
 /* Why a session can't be made again of its journal. */
@@ -19,5 +21,9 @@ enum replay_fault {
 
 /* Makes a session again of its journal. */
 enum replay_fault begin_again(struct session *session);
+
+/* Puts a server in the place of one that has stopped: what its journal makes, which has nothing of what has stopped it. So it can say that.
+ * Its connection is over. Returns whether it is made. */
+bool begin_server_again(struct session *session);
 
 #endif

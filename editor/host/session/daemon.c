@@ -311,8 +311,10 @@ static int give_up(struct session *session, enum replay_fault fault, bool is_att
         say("session %s can't go on: its journal is damaged at byte %" PRIu64, home->name, session->stay->journal.damaged_at);
     else
         say("session %s can't go on: %s", home->name, why_not_again(fault));
-    if (fault == REPLAY_OTHER)
-        (void)take_turns(session); /* writes a file, if that was asked for last */
+    if (fault == REPLAY_OTHER) {
+        close_journal(&session->stay->journal); /* it stays as it is */
+        (void)take_all(session);                /* writes a file, if that was asked for last */
+    }
     bool is_saved = !is_known || close_session(session, INPUT_ENDED) == STATUS_OK;
     if (is_wrong)
         is_saved = keep_wrong(home);
@@ -383,7 +385,7 @@ int end_without_samhost(struct home *home, bool has_ended)
     if (fault != REPLAY_OK && fault != REPLAY_NOTHING)
         return give_up(session, fault, false);
     if (fault == REPLAY_OK)
-        (void)take_turns(session); /* writes a file, if that was asked for last */
+        (void)take_all(session); /* writes a file, if that was asked for last */
     int status = !has_some ? report_rest(home, has_ended) : fault == REPLAY_OK ? close_session(session, INPUT_ENDED) : STATUS_OK;
     if (status == STATUS_LOST)
         say("session %s stays, since its journal has what is not saved: --end can be tried again", home->name);

@@ -23,6 +23,7 @@
 #include "disk/file_watcher.h"
 #include "journal/journal.h"
 #include "journal/journal_records.h"
+#include "journal/replay.h"
 #include "limits.h"
 #include "log.h"
 #include "net/event_loop.h"
@@ -198,7 +199,8 @@ static int64_t time_to_wait(const struct session *session, int64_t longest)
     int64_t wait = earlier(earlier(longest, save_is_due_in(session)), earlier(drop_callers(stay), watch_is_due_in(session)));
 
     wait = earlier(wait, time_left_alone(session));
-    return stay->is_short && stay->is_named ? earlier(wait, PAUSE) : wait;
+    bool is_short = stay->is_short || stay->messages.waiting != NULL;
+    return is_short && stay->is_named ? earlier(wait, PAUSE) : wait;
 }
 
 /* Sleeps until something comes or is due, and reads what it can; what is to be sent goes once the host has taken that, so that one sync
@@ -261,7 +263,7 @@ static enum ending ending_of_line(struct session *session)
     struct stay *stay = session->stay;
     bool is_at_its_end = stay->has_streams && stay->line < 0 && stay->broken == GOES_ON && !stay->is_short;
 
-    if (is_at_its_end && wished_is_truncated(stay)) {
+    if (is_at_its_end && is_inside(&stay->place)) {
         say("standard input ends inside a message");
         return LINE_BROKE;
     }
@@ -302,16 +304,30 @@ static enum ending serve_line(struct session *session, const sigset_t *mask)
     return ending == GOES_ON ? ending_of_line(session) : ending;
 }
 
-/* Whether the terminal has the last message, before which so many bytes were put, or can't hear of it. It has what standard output
- * took. */
+/* Whether the terminal has the last message, before which so many bytes were put and sent, or can't hear of it. It has what standard output
+ * took, and where its stream is wrong, so that nothing is taken which it acknowledges, what went over a line that it has closed since. */
 static bool has_heard_all(struct session *session, uint64_t wanted)
 {
     const struct stay *stay = session->stay;
-    bool is_sent = stay->out.sent == stay->out.len;
 
-    if (!stay->has_streams)
-        return wanted > 0 && count_of(session, sam_server_acknowledged) >= wanted;
-    return stay->line_out < 0 || (wanted > 0 && is_sent);
+    if (sam_is_stop(sam_server_go_on(session->server)) || (stay->has_streams && stay->line_out < 0))
+        return true;
+    if (wanted == 0 || stay->has_streams)
+        return wanted > 0;
+    return stay->ending == FAULT ? stay->line < 0 : count_of(session, sam_server_acknowledged) >= wanted;
+}
+
+/* Puts the last message. */
+static void put_last_message(struct session *session, int status)
+{
+    struct stay *stay = session->stay;
+
+    say_missing(&stay->messages); /* no line comes after it */
+    if (stay->has_ended || stay->messages.missing > 0)
+        return;
+    stay->has_ended = put_message(session, &(struct event){.kind = SAM_NOTE_ENDED, .number = (uint64_t)status}, NULL);
+    if (stay->has_ended)
+        record_ended(session, status);
 }
 
 /* Puts the last message, and keeps it until the terminal has acknowledged it: for a while where that has left, and for a moment where it
@@ -327,18 +343,15 @@ static void say_the_end(struct session *session, const sigset_t *mask, int statu
 
     stay->longest_alone = -1;
     session->due.is_waiting = false; /* all is saved */
+    stay->is_done = false;           /* nothing is done any more, so what stands in its way goes out */
     while (stay->is_named && now() < until && is_signalled() == was_signalled && stay->is_to_end == was_to_end) {
-        say_missing(&stay->messages); /* no line comes after the last message */
-        if (!stay->has_ended && stay->messages.missing == 0) {
-            stay->has_ended = put_message(session, &(struct event){.kind = SAM_NOTE_ENDED, .number = (uint64_t)status}, NULL);
-            if (stay->has_ended)
-                record_ended(session, status);
-        }
+        put_last_message(session, status);
         take_no_more(session);
         send_all(session);
-        if (wanted == 0 && stay->has_ended && stay->messages.waiting == NULL && stay->out.sent == stay->out.len && stay->line_out >= 0)
+        bool is_sent = stay->line_out >= 0 && stay->out.sent == stay->out.len;
+        if (wanted == 0 && is_sent && stay->has_ended && stay->messages.waiting == NULL)
             wanted = count_of(session, sam_server_put_count);
-        if (has_heard_all(session, wanted) || sam_is_stop(sam_server_go_on(session->server)) || (stay->has_streams && wanted == 0 && !is_tried_again(ENOMEM, &tries)))
+        if (has_heard_all(session, wanted) || (stay->has_streams && wanted == 0 && !is_tried_again(ENOMEM, &tries)))
             return;
         carry(session, mask, wanted > 0 ? until - now() : PAUSE);
     }
@@ -387,7 +400,7 @@ int stay_and_serve(struct session *session)
     set_signals(&mask);
     stay->alone_since = now();
     stay->begun = stay->begun == 0 ? stay->alone_since : stay->begun;
-    send_all(session); /* the welcome of a terminal that has taken the session over: it may say nothing before */
+    send_all(session);   /* the welcome of a terminal that has taken the session over: it may say nothing before */
     if (stay->has_ended) /* another samhost has done all but to wait */
         status = stay->is_kept ? STATUS_LOST : STATUS_OK;
     else {
@@ -399,6 +412,8 @@ int stay_and_serve(struct session *session)
         if (is_kept_at(stay, stay->ending) && keep_session(session))
             return STATUS_OK;
         status = end_for_good(session);
+        if (stay->ending == FAULT)
+            (void)begin_server_again(session); /* else the terminal finds no session */
     }
     record_copies(session);
     say_the_end(session, &mask, status, stay->ending != INPUT_ENDED);

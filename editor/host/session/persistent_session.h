@@ -10,10 +10,10 @@
 #include "limits.h"
 #include "log.h"
 #include "net/handshake.h"
+#include "net/stream_place.h"
 #include "session/ending.h"
 #include "session/messages.h"
 #include "session/session_directory.h"
-#include "session/wished.h"
 #include "sulgrevad.h"
 
 struct session;
@@ -37,18 +37,18 @@ struct stay {
     int line_out; /* the same, as bytes go over it */
     uint64_t attempt;
     struct piece in, out;
-    struct scan scan;
-    bool is_short;  /* memory is out for what was read, or for what follows from it */
-    bool is_done;   /* what the server asks for is done, and only to be noted as that */
+    struct stream_place place; /* of standard input, where that is its line */
+    bool is_short;             /* memory is out for what was read, or for what follows from it */
+    bool is_done;              /* what the server asks for is done, and only to be noted as that */
     struct messages messages;
     struct journal journal;
-    enum ending ending;               /* why it ends */
-    enum ending broken;               /* LINE_BROKE or FAULT: what its standard streams came to; GOES_ON before that */
-    struct session *heir;             /* what another terminal has made of the session; else NULL */
-    bool has_ended;    /* the last message is put */
-    bool is_again;     /* it was made again of its journal */
-    bool is_to_end;    /* somebody has asked for its end */
-    bool is_kept;      /* its folder stays, for another samhost to go on from its journal */
+    enum ending ending;   /* why it ends */
+    enum ending broken;   /* LINE_BROKE or FAULT: what its standard streams came to; GOES_ON before that */
+    struct session *heir; /* what another terminal has made of the session; else NULL */
+    bool has_ended;       /* the last message is put */
+    bool is_again;        /* it was made again of its journal */
+    bool is_to_end;       /* somebody has asked for its end */
+    bool is_kept;         /* its folder stays, for another samhost to go on from its journal */
     int64_t begun, alone_since, longest_alone;
     int64_t gone; /* since when a terminal is known to be gone of which memory is out for the last bytes; else 0 */
 };

@@ -27,7 +27,7 @@ struct session {
     struct cut cut;
     bool is_met;        /* a terminal has said more than its first words, so it has heard something; or has taken over what another had */
     int64_t watched_at; /* when files were looked at last */
-    bool is_lost;       /* a text of a closed file could neither be saved nor held in memory, or what came last could not be taken */
+    bool is_cut_off;    /* what came last could not be taken, so a file may count as written that is not */
     struct due due;
     mode_t mode_of_new_files;
     char *lost_folder; /* the one in which it began, where that is gone and the session only ends; else NULL */

@@ -1,8 +1,8 @@
 /* takeover.c: another terminal takes a session over.
  *
- * It gets a new host with the names and texts of the old one, and a link of its own, so the session is named anew, too. What was not
- * written stays so. Undo, dots, the command window and what the host has cut are the old terminal's: what was cut last is saved aside. All
- * memory is taken before anything changes.
+ * It gets a server of its own with the names and texts of the old one, so the session is named anew, too. What was not written stays so.
+ * Undo, dots, the command window and what the host has cut are the old terminal's: what was cut last is saved aside. All memory is taken
+ * before anything changes, and from the new journal on the session is the new terminal's.
  */
 #define _GNU_SOURCE
 #include <errno.h>
@@ -43,6 +43,18 @@ static bool is_handed_on(struct session *session, size_t tag)
     bool has = false;
 
     return !is_hidden(session, tag) && sam_server_has_file(session->server, (uint16_t)tag, &has) == SAM_OK && has;
+}
+
+/* Saves aside what is not written: the new server takes these files for written until they are marked as dirty, and wouldn't ask for
+ * their texts if its terminal closed them before. Where that fails it is told once more. */
+static void save_before(struct session *session)
+{
+    enum place place;
+
+    for (size_t tag = 1, tags = count_tags(session); tag < tags; tag++) {
+        if (is_handed_on(session, tag))
+            (void)secure(session, (uint16_t)tag, &place);
+    }
 }
 
 /* Gives the new server the names and texts of the old one, in their order. Returns whether there is memory for them. */
@@ -92,7 +104,8 @@ static void hand_documents(struct session *session, struct session *heir)
     heir->is_met = true;
 }
 
-/* Hands on the folder and all connections; the old terminal is told that they are gone, as far as its line takes that at once. */
+/* Hands on the folder and all connections. The old terminal is told that they are gone, as far as its line takes that at once: its journal
+ * is no more by now, so no other samhost goes on with a session that has said so. */
 static void hand_stay(struct session *session, struct session *heir, struct caller *caller)
 {
     struct stay *stay = session->stay, *next = heir->stay;
@@ -156,6 +169,7 @@ static struct session *make_heir(struct session *session, const struct caller *c
         return heir;
     heir->stay->home.all = heir->stay->home.folder = heir->stay->home.lock = -1; /* they are the old one's as before */
     free_staying(heir);
+    listen_for_messages(session);
     return NULL;
 }
 
@@ -166,16 +180,18 @@ uint32_t take_over(struct session *session, struct caller *caller, const uint8_t
 
     if (stay->ending != GOES_ON || stay->has_ended || stay->is_to_end) /* it waits for its terminal to hear of its end */
         return SAM_LINK_NO_SESSION;
-    struct session *heir = session->stay->is_short ? NULL : make_heir(session, caller, id, &code);
-
+    if (stay->is_short)
+        return code;
+    save_before(session);
+    struct session *heir = make_heir(session, caller, id, &code);
     if (heir == NULL)
         return code;
     hand_documents(session, heir);
-    hand_stay(session, heir, caller);
     heir->stay->attempt = attempt;
     heir->stay->is_named = true;
     listen_for_messages(heir);
     name_anew(session, heir);
+    hand_stay(session, heir, caller);
     (void)save_cut(session, false);
     report_taken(heir);
     record_copies(heir);

@@ -1,8 +1,8 @@
 /* turns.c: has the server of a session take what has come, and does what it asks for.
  *
- * The server stops where something is to be done: a file to be written or to be closed, a message of the terminal to be heard. What that
- * makes is one record of the journal: files that join, what is said, what is known of files, and that it is done. So a kill leaves all of it
- * or nothing. Where memory is out nothing is lost, and it is tried again.
+ * The server stops where something is to be done: a file to be written, a text that was dropped to be saved, a message of the terminal to
+ * be heard. What that makes is one record of the journal: files that join, what is said, what is known of files, and that it is done. So a
+ * kill leaves all of it or nothing. Where memory is out nothing is lost, and it is tried again.
  */
 #define _XOPEN_SOURCE 700
 #include <errno.h>
@@ -15,6 +15,7 @@
 #include "log.h"
 #include "net/event_loop.h"
 #include "net/handshake.h"
+#include "net/stream_place.h"
 #include "session/dirty_marks.h"
 #include "session/file_requests.h"
 #include "session/messages.h"
@@ -41,15 +42,25 @@ static bool feed(struct session *session)
         return false;
     sam_status code = sam_server_receive(session->server, stay->attempt, in->bytes + in->sent, count);
     if (is_taken(code)) {
-        wished_scan(session, in->bytes + in->sent, count);
+        if (stay->has_streams)
+            pass_bytes(&stay->place, in->bytes + in->sent, count);
         in->sent += count;
         delay_save(&session->due);
-        report_closed(session);
         return true;
     }
     if (!sam_is_stop(code) && code != SAM_NO_MEMORY && code != SAM_WAITING)
         break_line(session, code);
     return false;
+}
+
+void take_no_more(struct session *session)
+{
+    struct piece *in = &session->stay->in;
+
+    if (session->stay->ending == FAULT) /* it would stop the server once more */
+        in->sent = in->len;
+    else if (sam_server_go_on(session->server) == SAM_OK)
+        (void)feed(session);
 }
 
 /* ---- What it asks for ---- */
@@ -62,19 +73,16 @@ static bool hear(struct session *session)
     return sam_server_heard(session->server, message, sizeof message, &len) == SAM_OK && do_message(session, message, len);
 }
 
-/* Does what the server asks for next. Returns whether there was something, and memory for it. */
-static bool do_effect(struct session *session)
+/* Does what the server asks for. Returns whether there was memory for it. */
+static bool do_effect(struct session *session, const sam_effect *effect)
 {
     struct stay *stay = session->stay;
-    sam_effect effect;
 
-    if (sam_server_next_effect(session->server, &effect) != SAM_OK)
+    if (!stay->is_done && effect->kind == SAM_EFFECT_WRITE)
+        write_file(session, effect->tag);
+    else if (!stay->is_done && effect->kind == SAM_EFFECT_CLOSE && !save_closing(session, effect->tag))
         return false;
-    if (!stay->is_done && effect.kind == SAM_EFFECT_WRITE)
-        write_file(session, effect.tag);
-    else if (!stay->is_done && effect.kind == SAM_EFFECT_CLOSE)
-        save_closing(session, effect.tag);
-    else if (!stay->is_done && !hear(session))
+    else if (!stay->is_done && effect->kind == SAM_EFFECT_HEAR && !hear(session))
         return false;
     stay->is_done = true;
     put_messages(session);
@@ -82,8 +90,16 @@ static bool do_effect(struct session *session)
         return false;
     stay->is_done = false;
     session->is_met = true;
-    report_closed(session);
     return true;
+}
+
+/* Does what the server asks for; or gives it what was read, which stands behind all that it asks for. Returns whether there was something
+ * to do, and memory for it. */
+static bool go_further(struct session *session)
+{
+    sam_effect effect;
+
+    return sam_server_next_effect(session->server, &effect) == SAM_OK ? do_effect(session, &effect) : feed(session);
 }
 
 /* ---- All of it ---- */
@@ -99,60 +115,60 @@ static bool is_left(struct session *session, sam_status code)
            sam_server_next_effect(session->server, &effect) == SAM_OK || sam_server_record_len(session->server, &len) == SAM_OK;
 }
 
-static void forget_all_closed(struct session *session)
+/* Whether the terminal has opened a file, or a text is not written: such a session is not let go like one to which no terminal came. */
+static bool has_been_used(struct session *session)
 {
-    for (size_t tag = 1, tags = count_tags(session); tag < tags; tag++)
-        forget_closed(session, (uint16_t)tag);
+    size_t tags = session->is_met ? 0 : count_tags(session);
+    bool is_used = false, is_open = false;
+
+    for (size_t tag = 1; tag < tags && !is_used; tag++) {
+        bool is_known = sam_server_is_open(session->server, (uint16_t)tag, &is_open) == SAM_OK;
+        is_used = (is_known && is_open) || is_changed(session, (uint16_t)tag);
+    }
+    return is_used;
 }
 
-/* Whether the terminal has opened a file. */
-static bool has_opened(struct session *session)
+/* Once all is done: the files that are closed by now are none of the session any more. */
+static void forget_closed_files(struct session *session)
 {
-    bool is_open = false;
-
-    for (size_t tag = 1, tags = session->is_met ? 0 : count_tags(session); tag < tags && !is_open; tag++)
-        is_open = sam_server_is_open(session->server, (uint16_t)tag, &is_open) == SAM_OK && is_open;
-    return is_open;
+    report_closed(session);
+    for (size_t tag = 1, tags = count_tags(session); tag < tags; tag++)
+        forget_closed(session, (uint16_t)tag);
 }
 
 enum ending take_turns(struct session *session)
 {
     struct stay *stay = session->stay;
-    bool is_done = false, was_short = stay->is_short;
+    bool is_over = false, was_short = stay->is_short, are_marked = true;
     sam_status code;
 
     do {
         code = sam_server_go_on(session->server);
         if (code == SAM_OK) {
             put_messages(session);
-            (void)put_marks(session); /* else later */
+            are_marked = put_marks(session); /* before the terminal can close what is to be marked */
             settle(session);
         }
-    } while (code == SAM_OK && (do_effect(session) || feed(session)));
-    put_messages(session);
-    settle(session);
-    if (sam_is_stop(code) || sam_is_stop(sam_server_go_on(session->server))) {
-        say("the terminal's stream is wrong (status %u)", (unsigned)sam_server_go_on(session->server));
+    } while (code == SAM_OK && are_marked && go_further(session));
+    code = sam_server_go_on(session->server);
+    if (sam_is_stop(code)) {
+        say("the terminal's stream is wrong (status %u)", (unsigned)code);
         return FAULT;
     }
-    session->is_met |= has_opened(session);
-    forget_all_closed(session);
-    stay->is_short = is_left(session, code);
-    if (stay->is_short && !was_short)
+    session->is_met |= has_been_used(session);
+    stay->is_short = !are_marked || is_left(session, code);
+    if (!stay->is_short)
+        forget_closed_files(session);
+    else if (!was_short)
         say("out of memory; it is tried again");
-    return sam_server_is_done(session->server, &is_done) == SAM_OK && is_done ? LEFT : GOES_ON;
+    return sam_server_is_done(session->server, &is_over) == SAM_OK && is_over ? LEFT : GOES_ON;
 }
 
-void take_no_more(struct session *session)
-{
-    if (sam_server_go_on(session->server) == SAM_OK)
-        (void)feed(session);
-}
-
-void lose_the_last(struct session *session)
+/* What the terminal asked for last may not be done: a file may count as written that is not, so all are compared with the disk. */
+static void lose_the_last(struct session *session)
 {
     say("what came last from the terminal is lost: %s", cause(ENOMEM));
-    session->is_lost = true;
+    session->is_cut_off = true;
 }
 
 enum ending take_again(struct session *session, int *tries)
@@ -164,4 +180,12 @@ enum ending take_again(struct session *session, int *tries)
     if (ending == GOES_ON && session->stay->is_short)
         lose_the_last(session);
     return ending;
+}
+
+enum ending take_all(struct session *session)
+{
+    int tries = 0;
+    enum ending ending = take_turns(session);
+
+    return ending == GOES_ON ? take_again(session, &tries) : ending;
 }

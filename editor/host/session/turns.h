@@ -14,10 +14,10 @@ enum ending take_turns(struct session *session);
 /* The same for what memory was out for. What can't be taken in a while is lost. */
 enum ending take_again(struct session *session, int *tries);
 
+/* Both, for a session that ends then. */
+enum ending take_all(struct session *session);
+
 /* Has the server take what was read, for the counts of its link, once nothing is done any more. */
 void take_no_more(struct session *session);
-
-/* Says that what came last from the terminal is lost, since memory is out. */
-void lose_the_last(struct session *session);
 
 #endif
