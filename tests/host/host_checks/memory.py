@@ -20,7 +20,7 @@ from .support import (
 
 PIPE_ROOM = 60_000  # bytes that a pipe takes before any are read
 FOR_GOOD = 1_000_000  # more requests for memory than a host makes
-UP_TO_A_CLOSE = 43  # as many as it makes to name a file that is closed, and to save its text 21 times; then it needs three to hold it
+UP_TO_A_CLOSE = 43  # as many as it makes to name a file that is closed and to save its text, several times
 RUNS = 32  # hosts at once, which sleep for the most part
 MOST_REQUESTS = 2000
 NEW_FILE = 12
@@ -181,10 +181,10 @@ def check_memory_out(folder):
 
 
 def check_memory_out_at_a_close(folder):
-    """The same where memory comes back once a file is closed whose text could not even be held."""
+    """Nothing is lost where memory comes back a while after a file was closed: until then the server keeps its text."""
     stream = on_file(OPEN) + typed(1, 0, b"1") + on_file(CLOSE)
     scene = Scene(("a.txt",), stream, {"a.txt": ("one\n",)}, {"1one\n"})
-    expect_equal(sweep_refused(folder, scene, UP_TO_A_CLOSE), {0, 4, 5}, "the statuses")
+    expect_equal(sweep_refused(folder, scene, UP_TO_A_CLOSE), {0, 4}, "the statuses")
 
 
 def check_two_names_without_memory(folder):

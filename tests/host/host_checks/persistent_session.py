@@ -16,7 +16,7 @@ from link_model import HELLO_BYTES, Read, What, read_whole, spelled
 
 from .journals import UP, kill, kinds_of, records_of, typed
 from .line import Staying, home_of, is_running, pid_of, state_of, with_calls
-from .support import IDLE, IS_ROOT, LATE, NOBODY, SAMHOST, expect_equal, front_of, made, names_in, text_of
+from .support import IDLE, IS_ROOT, LATE, NOBODY, SAMHOST, WRITE, expect_equal, front_of, made, names_in, on_file, text_of
 
 OWN = "0123456789abcdef"
 MINUTE = 60.0  # seconds that a session stays to which no terminal came
@@ -332,6 +332,42 @@ def check_stays_where_a_text_can_t_be_saved(folder):
         expect_equal((ended.returncode, ended.stderr), wanted, "what comes of --end")
         expect_gone(folder, session)
     expect_equal(text_of(folder / "a.txt.sam-saved"), "one\ntwo\n", "the copy")
+
+
+def check_stays_where_a_closed_text_can_t_be_saved(folder):
+    """So it does with a text whose file was closed before that."""
+    made(folder, a="one\n")
+    with Staying(folder, "a.txt") as session:
+        pid = pid_of(folder, session.name)
+        with with_calls(pid, "inject=pwrite64:error=ENOSPC"):
+            session.type("two\n")
+            session.terminal.close(1)
+            session.settle()
+            session.terminal.exit()
+            session.wait_for_end(5)
+            wait_until(lambda: not is_running(pid), "it doesn't go")
+        ended = session.run("--end", session.name)
+        wanted = (0, "samhost: a.txt was not written; its text is in a.txt.sam-saved\n")
+        expect_equal((ended.returncode, ended.stderr), wanted, "what comes of --end")
+        expect_gone(folder, session)
+    expect_equal(text_of(folder / "a.txt.sam-saved"), "one\ntwo\n", "the copy")
+
+
+def check_stays_told_that_its_stream_is_wrong(folder):
+    """A terminal whose stream is wrong hears that, and that its session has ended; what it had typed before is saved. Then there is no
+    session any more."""
+    with typed(folder) as session:
+        pid = pid_of(folder, session.name)
+        session.link.put(on_file(WRITE) + b"\xff")
+        session.give()
+        session.wait_for_end(3)
+        expect(any(said.startswith("the terminal's stream is wrong (status ") for said in session.said()), f"it says {session.said()}")
+        session.drop()
+        wait_until(lambda: not is_running(pid), "it doesn't go")
+        expect_gone(folder, session)
+        session.start("--attach", session.name)
+        expect_equal((session.refusal(), session.wait()), (What.NO_SESSION, 7), "what it finds then")
+    expect_equal(text_of(folder / "a.txt"), "one\ntwo\n", "the file")
 
 
 def check_stays_without_a_state_folder(folder):

@@ -19,7 +19,7 @@ LONGEST_UNSAVED = 10.0  # seconds after which it does while messages still come
 LATE = 3.0  # seconds that a busy machine may add
 NOBODY = 65534
 IS_ROOT = os.geteuid() == 0
-REQUEST, OPEN, CUT, WRITE, CLOSE, EXIT = 4, 6, 9, 13, 14, 22  # kinds of the terminal's messages
+VERSION, REQUEST, OPEN, CUT, WRITE, CLOSE, EXIT = 1, 4, 6, 9, 13, 14, 22  # kinds of the terminal's messages
 # What a host says that no terminal has greeted.
 NO_HELLO = "samhost: standard input has no hello of a terminal; samterm, samweb and Emacs start samhost, and samterm FILE edits a file"
 # What a host that begins says of the user's folder in a /tmp that it shares with those of other checks.

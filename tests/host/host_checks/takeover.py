@@ -10,7 +10,7 @@ from link_model import What
 from .journal_faults import AGAIN
 from .journals import KNOWN, kill, killed, kinds_of, typed
 from .line import Staying, home_of, is_running, pid_of, state_of, with_calls
-from .support import IDLE, expect_equal, made, names_in, text_of
+from .support import CLOSE, EXIT, IDLE, OPEN, VERSION, expect_equal, made, message, names_in, on_file, text_of
 
 RENAMES = "renameat,renameat2"  # calls of the system that rename the journal, and then the folder
 RECORDS = 7  # calls that write the new journal: its head, its begin and two syncs
@@ -160,6 +160,20 @@ def check_taken_back_once_it_is_written(folder):
                 new.leave()
         expect_equal(text_of(place / "a.txt"), "one\ntwo\nthree\n", "the file")
         expect_equal([name for name in names_in(place) if "sam" in name], [], "the copies that are left")
+
+
+def check_taken_and_closed_at_once(folder):
+    """A file that the new terminal closes before it can have been marked as changed is saved aside all the same."""
+    made(folder, a="one\n")
+    with Staying(folder, "a.txt") as old:
+        old.type("two\n")
+        old.drop()
+        with Staying(folder, takes=old.name, begin=False) as new:
+            new.give()
+            wait_until(lambda: new.receive(0.1) and new.is_welcomed, "it isn't welcomed")
+            new.link.put(message(VERSION, b"\0\2") + on_file(OPEN) + on_file(CLOSE) + message(EXIT))
+            new.wait_for_end(0)
+    expect_equal(text_of(folder / "a.txt.sam-saved"), "one\ntwo\n", "the copy")
 
 
 def alone(folder, old):
