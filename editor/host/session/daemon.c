@@ -134,47 +134,63 @@ static int serve_alone(struct session *session, int begun)
     return status;
 }
 
-/* Connects to the session that has begun, and relays. Returns the exit status. */
-static int relay_to(struct session *session, int begun)
+static int say_not_begun(const struct home *home, const char *why)
+{
+    set_listener(NULL, NULL);
+    say("session %s did not begin: %s", home->name, why);
+    return STATUS_BROKEN;
+}
+
+/* Begins another process. Hands out its number, and an end of a pipe: in that process it goes to serve_alone. */
+static int begin_process(pid_t *process, int *end)
+{
+    int ends[2];
+
+    if (pipe(ends) != 0)
+        return errno;
+    *process = fork();
+    int error = *process < 0 ? errno : 0;
+    if (*process != 0)
+        close(ends[1]);
+    if (*process <= 0)
+        close(ends[0]);
+    *end = ends[*process == 0];
+    return error;
+}
+
+/* Whether the other process serves the session by now; else it has ended. */
+static bool has_begun(int end)
 {
     uint8_t byte;
-    int line, error = 0;
     ssize_t count;
 
     do
-        count = read(begun, &byte, 1);
+        count = read(end, &byte, 1);
     while (count < 0 && errno == EINTR);
-    close(begun);
-    if (count != 1 || (error = connect_home(&session->stay->home, 0, &line)) != 0) {
-        set_listener(NULL, NULL);
-        say("session %s did not begin: %s", session->stay->home.name, error == 0 ? "its process ended" : cause(error));
-        free_staying(session);
-        return STATUS_BROKEN;
-    }
-    free_staying(session);
-    return relay(line);
+    close(end);
+    return count == 1;
 }
 
 /* Goes on in two processes: one serves the session, one relays. Returns the exit status of either. */
 static int part(struct session *session)
 {
     struct stay *stay = session->stay;
-    int ends[2] = {-1, -1};
-    int error = bind_home(&stay->home, &stay->listener);
-    pid_t process = -1;
+    int end, line, error = bind_home(&stay->home, &stay->listener);
+    pid_t process;
 
-    if (error == 0 && (pipe(ends) != 0 || (process = fork()) < 0))
-        error = errno;
-    if (error != 0) {
-        set_listener(NULL, NULL);
-        say("session %s did not begin: %s", stay->home.name, cause(error));
-        if (!stay->is_again)
-            remove_home(&stay->home);
-        free_staying(session);
-        return STATUS_BROKEN;
-    }
-    close(ends[process == 0 ? 0 : 1]);
-    return process == 0 ? serve_alone(session, ends[1]) : relay_to(session, ends[0]);
+    if (error == 0)
+        error = begin_process(&process, &end);
+    if (error != 0)
+        remove_home(&stay->home);
+    else if (process == 0)
+        return serve_alone(session, end);
+    bool is_there = error == 0 && has_begun(end);
+    if (is_there)
+        error = connect_home(&stay->home, 0, &line);
+    is_there &= error == 0;
+    int status = is_there ? STATUS_OK : say_not_begun(&stay->home, error == 0 ? "its process ended" : cause(error));
+    free_staying(session);
+    return is_there ? relay(line) : status;
 }
 
 /* ---- Beginning ---- */
@@ -261,7 +277,7 @@ static int find(struct home *home, int *line)
             return ENOENT;
         nanosleep(&nap, NULL); /* it has begun, and doesn't listen yet */
     }
-    return error;
+    return error == ENOENT ? ETIMEDOUT : error;
 }
 
 static const char *why_not_again(enum replay_fault fault)
@@ -337,8 +353,8 @@ static void finish_naming(struct session *session)
         sync_home(&stay->home);
 }
 
-/* Makes a session again whose samhost is gone, and goes on with it; its folder is locked. Returns the exit status. */
-static int go_on(struct home *home)
+/* Makes a session again whose samhost is gone, and serves it. Returns the exit status. */
+static int serve_again(struct home *home, int begun)
 {
     struct session *session = make_staying(home, 0);
 
@@ -347,13 +363,40 @@ static int go_on(struct home *home)
         close_home(home);
         return STATUS_MEMORY;
     }
-    session->stay->is_again = true;
     listen_for_messages(session);
     enum replay_fault fault = begin_again(session);
     if (fault != REPLAY_OK)
         return give_up(session, fault, true);
     finish_naming(session);
-    return part(session);
+    int error = bind_home(&session->stay->home, &session->stay->listener);
+    if (error == 0)
+        return serve_alone(session, begun);
+    int status = say_not_begun(&session->stay->home, cause(error));
+    free_staying(session);
+    return status;
+}
+
+/* Has another process go on with a session whose samhost is gone, and relays to it; the folder is locked. A long journal takes longer than a
+ * terminal waits: so that process makes the session again, and stays when this one is ended. Returns the exit status of either. */
+static int go_on(struct home *home)
+{
+    pid_t process;
+    int end, line, ended = 0, error = begin_process(&process, &end);
+
+    if (error == 0 && process == 0) {
+        (void)setsid();
+        return serve_again(home, end);
+    }
+    bool is_there = error == 0 && has_begun(end);
+    if (is_there)
+        error = connect_home(home, 0, &line);
+    close_home(home);
+    if (error != 0)
+        return say_not_begun(home, cause(error));
+    if (is_there)
+        return relay(line);
+    bool has_said_why = waitpid(process, &ended, 0) == process && WIFEXITED(ended);
+    return has_said_why ? WEXITSTATUS(ended) : say_not_begun(home, "its process ended");
 }
 
 /* Says what is left of a session that has no journal, unless that is nothing and its samhost has just ended it. Returns the exit status. */

@@ -46,7 +46,6 @@ struct stay {
     enum ending broken;   /* LINE_BROKE or FAULT: what its standard streams came to; GOES_ON before that */
     struct session *heir; /* what another terminal has made of the session; else NULL */
     bool has_ended;       /* the last message is put */
-    bool is_again;        /* it was made again of its journal */
     bool is_to_end;       /* somebody has asked for its end */
     bool is_kept;         /* its folder stays, for another samhost to go on from its journal */
     int64_t begun, alone_since, longest_alone;

@@ -10,6 +10,7 @@ import signal
 import struct
 import subprocess
 import time
+from pathlib import Path
 
 import sulgrevad
 from checks import ROOT, Skipped, expect, wait_until
@@ -140,6 +141,26 @@ def check_journal_goes_on(folder):
         session.leave()
         wait_until(lambda: not home_of(folder, session.name).exists(), "its folder stays")
     expect_equal([name for name in names_in(folder) if "sam" in name], [], "the copies that are left")
+
+
+def children_of(pid):
+    """The processes that a process has begun, and that have not ended."""
+    return [child for child in map(int, Path(f"/proc/{pid}/task/{pid}/children").read_text().split()) if is_running(child)]
+
+
+def check_journal_is_read_on_without_its_relay(folder):
+    """A session is made again also where who waits for that is killed meanwhile, as by a terminal that waits no longer: the next one finds
+    it."""
+    if shutil.which("strace") is None:
+        raise Skipped("no strace")
+    with killed(folder) as session:
+        session.prefix = ("strace", "-D", "-f", "-qq", "-o", "/dev/null", "-e", "inject=bind:delay_enter=2000000")
+        session.attach()
+        wait_until(lambda: children_of(session.process.pid), "it begins no process")
+        (child,) = children_of(session.process.pid)
+        session.drop()
+        expect_equal((session.text(), pid_of(folder, session.name)), ("one\ntwo\n", child), "the text, and the process that has it")
+        session.leave()
 
 
 def check_journal_knows_copies(folder):
