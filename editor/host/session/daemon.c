@@ -376,8 +376,9 @@ static int serve_again(struct home *home, int begun)
     return status;
 }
 
-/* Has another process go on with a session whose samhost is gone, and relays to it; the folder is locked. A long journal takes longer than a
- * terminal waits: so that process makes the session again, and stays when this one is ended. Returns the exit status of either. */
+/* Has another process go on with a session whose samhost is gone, and relays to it; the folder is locked. A long journal may take longer
+ * than a terminal waits, which then ends this process: so the other one makes the session again, and the next connection finds it. Returns
+ * the exit status of either. */
 static int go_on(struct home *home)
 {
     pid_t process;

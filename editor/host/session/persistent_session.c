@@ -400,6 +400,8 @@ int stay_and_serve(struct session *session)
     set_signals(&mask);
     stay->alone_since = now();
     stay->begun = stay->begun == 0 ? stay->alone_since : stay->begun;
+    if (!stay->has_ended) /* before any terminal comes: what another samhost was asked for, and had not done */
+        stay->ending = take_turns(session);
     send_all(session);   /* the welcome of a terminal that has taken the session over: it may say nothing before */
     if (stay->has_ended) /* another samhost has done all but to wait */
         status = stay->is_kept ? STATUS_LOST : STATUS_OK;

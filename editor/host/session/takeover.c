@@ -177,10 +177,11 @@ uint32_t take_over(struct session *session, struct caller *caller, const uint8_t
 {
     sam_status code = SAM_NO_MEMORY;
     const struct stay *stay = session->stay;
+    sam_effect effect;
 
     if (stay->ending != GOES_ON || stay->has_ended || stay->is_to_end) /* it waits for its terminal to hear of its end */
         return SAM_LINK_NO_SESSION;
-    if (stay->is_short)
+    if (stay->is_short || sam_server_next_effect(session->server, &effect) == SAM_OK) /* a file is to be written before, or to be saved */
         return code;
     save_before(session);
     struct session *heir = make_heir(session, caller, id, &code);

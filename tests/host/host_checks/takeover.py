@@ -228,6 +228,29 @@ def check_taken_and_killed_at_each_step(folder):
                 new.leave()
 
 
+def check_taken_where_something_was_under_way(folder):
+    """Killed before it has written a file that was to be written, or has saved one that was closed, the next samhost does that before it
+    hands the session on."""
+    for what in ("write", "close"):
+        place = folder / what
+        place.mkdir()
+        made(place, a="one\n", b="other\n")
+        with Staying(place, "a.txt", "b.txt") as old:
+            old.type("two\n")
+            pid = pid_of(place, old.name)
+            with with_calls(pid, "inject=openat:signal=KILL:when=1"):
+                (old.terminal.write if what == "write" else old.terminal.close)(1)
+                old.send()
+                wait_until(lambda: not is_running(pid), "it isn't killed")
+            old.drop()
+            expect_equal((text_of(place / "a.txt"), text_of(place / "a.txt.sam-saved")), ("one\n", None), f"{what}: the file and its copy")
+            with Staying(place, takes=old.name) as new:
+                found = text_of(place / ("a.txt" if what == "write" else "a.txt.sam-saved"))
+                expect_equal(found, "one\ntwo\n", f"{what}: what is on the disk")
+                expect_equal(names_of(new), ["a.txt", "b.txt"] if what == "write" else ["b.txt"], f"{what}: the files")
+                new.leave()
+
+
 def check_taken_where_the_folder_stays(folder):
     """A session whose folder can't be named anew is told of it, and found by the new name all the same: after a break, after a kill, and by
     --end."""
