@@ -236,17 +236,19 @@ def check_taken_where_something_was_under_way(folder):
         place.mkdir()
         made(place, a="one\n", b="other\n")
         with Staying(place, "a.txt", "b.txt") as old:
-            old.type("two\n")
-            pid = pid_of(place, old.name)
-            with with_calls(pid, "inject=openat:signal=KILL:when=1"):
+            pid = alone(place, old)
+            old.settle()
+            with with_calls(pid, "inject=fdatasync:signal=KILL:when=1"):
+                old.terminal.type(1, "three\n")
                 (old.terminal.write if what == "write" else old.terminal.close)(1)
                 old.send()
                 wait_until(lambda: not is_running(pid), "it isn't killed")
             old.drop()
-            expect_equal((text_of(place / "a.txt"), text_of(place / "a.txt.sam-saved")), ("one\n", None), f"{what}: the file and its copy")
+            found = text_of(place / "a.txt"), text_of(place / "a.txt.sam-saved")
+            expect_equal(found, ("one\n", "one\ntwo\n"), f"{what}: the file and its copy")
             with Staying(place, takes=old.name) as new:
                 found = text_of(place / ("a.txt" if what == "write" else "a.txt.sam-saved"))
-                expect_equal(found, "one\ntwo\n", f"{what}: what is on the disk")
+                expect_equal(found, "one\ntwo\nthree\n", f"{what}: what is on the disk")
                 expect_equal(names_of(new), ["a.txt", "b.txt"] if what == "write" else ["b.txt"], f"{what}: the files")
                 new.leave()
 
