@@ -16,7 +16,7 @@ import sulgrevad
 from checks import ROOT, Skipped, expect, wait_until
 from link_model import What
 
-from .line import Staying, home_of, is_running, pid_of
+from .line import Staying, home_of, is_running, pid_of, with_calls
 from .support import SAMHOST, expect_equal, made, names_in, text_of
 
 HEAD = 24  # bytes of a journal before its first record
@@ -217,6 +217,26 @@ def check_journal_through_kills(folder):
         session.leave()
     copies = [name for name in names_in(folder) if "sam" in name and not name.startswith(".sam-")]  # a write that was killed leaves those
     expect_equal(copies, [], "the copies that are left")
+
+
+def check_journal_of_a_close_killed_at_each_step(folder):
+    """A changed text whose file is closed is saved wherever samhost is killed then, and the terminal is told where."""
+    steps = [("writev", number) for number in range(1, 5)] + [(call, number) for call in ("fdatasync", "openat", "fsync") for number in (1, 2)]
+    for call, when in [*steps, ("pwrite64", 1), ("link", 1), ("unlink", 1)]:
+        place = folder / f"{call}{when}"
+        place.mkdir()
+        made(place, a="one\n", b="other\n")
+        with Staying(place, "a.txt", "b.txt") as session:
+            pid = pid_of(place, session.name)
+            with with_calls(pid, f"inject={call}:signal=KILL:when={when}"):
+                session.terminal.type(1, "two\n")
+                session.terminal.close(1)
+                session.settle()
+            copies = [text_of(path) for path in place.glob("a.txt.sam-saved*")]
+            expect(copies and set(copies) == {"two\none\n"}, f"{call} {when}: the copies have {copies}")
+            expect(session.of("ASIDE", tag=1, path=b"a.txt"), f"{call} {when}: it tells {session.messages}")
+            expect_equal(text_of(place / "a.txt"), "one\n", f"{call} {when}: the file")
+            session.leave()
 
 
 def check_journal_torn(folder):
