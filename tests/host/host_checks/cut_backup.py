@@ -39,8 +39,7 @@ def check_cut(folder):
 
 
 def check_cut_and_more(folder):
-    """A text that was pasted, or only copied, stands in a file; of two cuts the last counts. One that a terminal has put into the file for
-    undo meanwhile is saved as well, and what that copies is not."""
+    """A text that was pasted, or only copied, stands in a file; of two cuts the last counts."""
 
     def cut(session, tag, start, end):
         session.terminal.select(tag, start, end)
@@ -54,22 +53,12 @@ def check_cut_and_more(folder):
         session.terminal.select(tag, start, end)
         session.terminal.snarf(tag)
 
-    def into_vault(session, goes_on):
-        cut(session, 1, 0, 3)
-        paste(session, 2, 0)
-        copy(session, 1, 0, 4)
-        if goes_on:
-            paste(session, 2, 3)
-            cut(session, 2, 0, 3)
-
     for what, does, wanted in (
         ("pasted", lambda session: (cut(session, 1, 0, 3), paste(session, 1, 5)), None),
         ("copied", lambda session: copy(session, 1, 0, 3), None), ("cut", lambda session: cut(session, 1, 4, 7), "two"),
         ("cut again", lambda session: (cut(session, 1, 0, 3), cut(session, 1, 1, 4)), "two"),
         ("copied and erased", lambda session: (copy(session, 1, 0, 3), session.terminal.edit(1, 0, 8, "")), "one"),
         ("set", lambda session: session.terminal.set_snarf("none"), "none"),
-        ("in the vault", lambda session: into_vault(session, False), "one"), ("back", lambda session: into_vault(session, True), "one"),
-        ("back and pasted", lambda session: (into_vault(session, True), paste(session, 1, 0)), None),
     ):  # fmt: skip
         made(folder, a="one\ntwo\nthree\n")
         with Session(folder, "a.txt", options=("--undo",)) as session:
