@@ -221,8 +221,8 @@ def check_journal_through_kills(folder):
 
 def check_journal_of_a_close_killed_at_each_step(folder):
     """A changed text whose file is closed is saved wherever samhost is killed then, and the terminal is told where."""
-    steps = [("writev", number) for number in range(1, 5)] + [(call, number) for call in ("fdatasync", "openat", "fsync") for number in (1, 2)]
-    for call, when in [*steps, ("pwrite64", 1), ("link", 1), ("unlink", 1)]:
+    twice = [(call, number) for call in ("fdatasync", "openat", "fsync") for number in (1, 2)]
+    for call, when in [*(("writev", number) for number in range(1, 5)), *twice, ("pwrite64", 1), ("link", 1), ("unlink", 1)]:
         place = folder / f"{call}{when}"
         place.mkdir()
         made(place, a="one\n", b="other\n")
