@@ -119,8 +119,10 @@ static int serve_alone(struct session *session, int begun)
     set_signals(&mask); /* before its process is named, so that a signal ends it as any session */
     go_alone();
     write_owner(&stay->home);
-    if (listen_at(stay->listener) == 0 && write(begun, "", 1) == 1) {
-        close(begun);
+    bool is_listening = listen_at(stay->listener) == 0;
+    bool is_awaited = is_listening && (write(begun, "", 1) == 1 || stay->is_named); /* its terminal comes back, where who called is gone */
+    close(begun);
+    if (is_awaited) {
         status = stay_and_serve(session);
         for (struct session *heir; (heir = session->stay->heir) != NULL; session = heir) {
             free_staying(session);

@@ -150,6 +150,7 @@ enum ending take_turns(struct session *session)
             settle(session);
         }
     } while (code == SAM_OK && are_marked && go_further(session));
+    settle(session); /* what was said of a line that broke */
     code = sam_server_go_on(session->server);
     if (sam_is_stop(code)) {
         say("the terminal's stream is wrong (status %u)", (unsigned)code);

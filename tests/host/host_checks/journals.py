@@ -144,8 +144,9 @@ def check_journal_goes_on(folder):
 
 
 def children_of(pid):
-    """The processes that a process has begun, and that have not ended."""
-    return [child for child in map(int, Path(f"/proc/{pid}/task/{pid}/children").read_text().split()) if is_running(child)]
+    """The processes that a samhost has begun, and that have not ended."""
+    children = map(int, Path(f"/proc/{pid}/task/{pid}/children").read_text().split())
+    return [child for child in children if is_running(child) and Path(f"/proc/{child}/comm").read_text() == "samhost\n"]
 
 
 def check_journal_is_read_on_without_its_relay(folder):

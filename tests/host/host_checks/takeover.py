@@ -162,6 +162,22 @@ def check_taken_back_once_it_is_written(folder):
         expect_equal([name for name in names_in(place) if "sam" in name], [], "the copies that are left")
 
 
+class Deaf:
+    """A terminal's program that hears nothing of what is answered to its messages."""
+
+    def flush_now(self):
+        pass
+
+    def take_out(self):
+        return b""
+
+    def feed(self, data):
+        pass
+
+    def free(self):
+        pass
+
+
 def check_taken_and_closed_at_once(folder):
     """A file that the new terminal closes before it can have been marked as changed is saved aside all the same."""
     made(folder, a="one\n")
@@ -171,6 +187,8 @@ def check_taken_and_closed_at_once(folder):
         with Staying(folder, takes=old.name, begin=False) as new:
             new.give()
             wait_until(lambda: new.receive(0.1) and new.is_welcomed, "it isn't welcomed")
+            new.terminal.free()
+            new.terminal = Deaf()
             new.link.put(message(VERSION, b"\0\2") + on_file(OPEN) + on_file(CLOSE) + message(EXIT))
             new.wait_for_end(0)
     expect_equal(text_of(folder / "a.txt.sam-saved"), "one\ntwo\n", "the copy")
@@ -237,7 +255,7 @@ def check_taken_where_something_was_under_way(folder):
         made(place, a="one\n", b="other\n")
         with Staying(place, "a.txt", "b.txt") as old:
             pid = alone(place, old)
-            old.settle()
+            old.carry(lambda: old.process is not None and old.is_welcomed, "it isn't welcomed")
             with with_calls(pid, "inject=fdatasync:signal=KILL:when=1"):
                 old.terminal.type(1, "three\n")
                 (old.terminal.write if what == "write" else old.terminal.close)(1)
