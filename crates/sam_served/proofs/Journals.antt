@@ -17,7 +17,7 @@ use Rattle.sam_served.specs.Journals.{IsCrash, IsJournalOf, IsLeft, JournalsAreC
 
 -- ## Acts, one list behind another
 
-acts_lead_on : (id : Id) (acts more : List Act) (p q z : Program) → LeadsProgram id p acts q → LeadsProgram id q more z
+pub acts_lead_on : (id : Id) (acts more : List Act) (p q z : Program) → LeadsProgram id p acts q → LeadsProgram id q more z
     → LeadsProgram id p (acts ++ more) z
 acts_lead_on id [] more p q z leads last = subst (λ (x : Program). LeadsProgram id x more z) leads last
 acts_lead_on id (ByTerminal c ∷ acts) more p q z (t, does, carried, rest) last =

@@ -487,6 +487,7 @@ served_are_sessions id events w leads =
       host_calls = all_calls x.xs;
       leads = x.stands.leads;
       like = x.like;
+      outs = λ attempt. logged_out attempt x.xs (new_server id) x.alt x.logged ∙ ap (λ (l : List Entry). out attempt (calls_in l)) x.log_is;
       answers = all_hosts x.xs;
       runs = subst (λ h. Runs (begun_with (new_host [])) (all_hosts x.xs) h) (sym x.host) (logged_runs x.xs (new_server id) x.alt x.logged);
       took = logged_took x.xs (new_server id) x.alt x.logged;

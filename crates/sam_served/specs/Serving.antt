@@ -153,15 +153,16 @@ LeadsServed id w (Crash n ∷ events) z =
 abbrev pub session_of : Served → End → List Call → Session
 session_of w host calls = record { terminal = w.terminal; host = host; terminal_calls = w.terminal_calls; host_calls = calls }
 
--- It is a session without crashes, in which each crash is a break: this terminal with its calls, and a host whose end is like this one. Of
--- the endpoint these are the calls, which led to where it is: it was fed all that came, all that it answered was put, and files joined and
--- were marked as the records say
+-- It is a session without crashes, in which each crash is a break: this terminal with its calls, and a host whose end is like this one,
+-- and of which on each connection the same bytes went out. Of the endpoint these are the calls, which led to where it is: it was fed all
+-- that came, all that it answered was put, and files joined and were marked as the records say
 pub record IsSession (id : Id) (w : Served) : Type 0 where
   pub steps : List Step
   pub host : End
   pub host_calls : List Call
   pub leads : Leads (new_session id) steps (session_of w host host_calls)
   pub like : AreLike w.server.link host
+  pub outs : (attempt : ℕ) → out attempt host_calls ≡ out attempt (calls_in w.log)
   pub answers : List HostCall
   pub runs : Runs (begun_with (new_host [])) answers w.server.host
   pub took : flat_map came_in answers ≡ bytes_of (handed host_calls)
