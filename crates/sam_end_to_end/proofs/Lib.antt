@@ -1,0 +1,4 @@
+pub mod Ends
+pub mod Owing
+pub mod Sessions
+pub mod Delivery
