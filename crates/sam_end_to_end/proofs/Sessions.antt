@@ -207,46 +207,54 @@ owing : (l : Line) (call : LineCall) (n : Line) (t : End) → t ≡ n.link → O
 owing l call n t is (inl same) = inl same
 owing l call n t is (inr all) = inr (all ∙ ap put_len (sym is))
 
+abbrev line_at : Line → List LineCall → End → List Call → LineSession
+line_at l mine host host_calls = record { line = l; host = host; line_calls = mine; host_calls = host_calls }
+
+-- the line and the host of a session without crashes that the program is now
+abbrev line_shadow : (id : Id) (l : Line) (mine : List LineCall) (b : Program) (sh : Shadow id l mine b) → (x : IsServed id (beside b sh.t sh.calls))
+    → (y : IsSession id x.served) → LineShadow id (line_at l mine y.host y.host_calls)
+line_shadow id l mine b sh x y = record {
+  steps = y.steps;
+  t = session_of x.served y.host y.host_calls;
+  leads = y.leads;
+  terminal_is = x.terminal ∙ sh.terminal_is;
+  host_is = refl;
+  host_calls_are = refl;
+  puts_are = ap put x.terminal_calls ∙ sh.puts_are;
+  hands_are = ap handed x.terminal_calls ∙ sh.hands_are;
+  outs_are = λ k. ap (out k) x.terminal_calls ∙ sh.outs_are k;
+  tied = subst (λ (cs : List Call). Tied l (λ k. took k mine) (λ k. fed k cs)) (sym x.terminal_calls) sh.tied;
+}
+
+puts_on : (mine : List LineCall) (call : LineCall) (calls next : List Call) → put calls ≡ flat_map line_put_by mine
+    → put next ≡ flat_map line_put_by (mine ++ call ∷ []) → put next ≡ put calls ++ line_put_by call
+puts_on mine call calls next are more =
+    more ∙ with_last line_put_by mine call ∙ ap (λ (l : List Item). l ++ line_put_by call) (sym are)
+
 line_went : (id : Id) (l n : Line) (mine : List LineCall) (b : Program) (call : LineCall) → Shadow id l mine b → LineDoes l call n
     → WasBrought mine b.outs call → Shadow id n (mine ++ call ∷ []) b
 line_went id l n mine b call sh does brought =
     let x = programs_are_served id sh.acts (beside b sh.t sh.calls) sh.leads in
     let y = served_are_sessions id x.events x.served x.leads in
+    let w = x.served in
     let goes : (k : ℕ) → out k b.outs ≡ out k y.host_calls = λ k. x.outs k ∙ sym (y.outs k) in
-    let s : LineSession = record { line = l; host = y.host; line_calls = mine; host_calls = y.host_calls } in
-    let t : LinkSession = session_of x.served y.host y.host_calls in
-    let before : LineShadow id s = record {
-      steps = y.steps;
-      t = t;
-      leads = y.leads;
-      terminal_is = x.terminal ∙ sh.terminal_is;
-      host_is = refl;
-      host_calls_are = refl;
-      puts_are = ap put x.terminal_calls ∙ sh.puts_are;
-      hands_are = ap handed x.terminal_calls ∙ sh.hands_are;
-      outs_are = λ k. ap (out k) x.terminal_calls ∙ sh.outs_are k;
-      tied = subst (λ (cs : List Call). Tied l (λ k. took k mine) (λ k. fed k cs)) (sym x.terminal_calls) sh.tied;
-    } in
-    let later = line_step id s call n before does (line_brought mine b.outs y.host_calls call goes brought) in
+    let later = line_step id (line_at l mine y.host y.host_calls) call n (line_shadow id l mine b sh x y) does
+    (line_brought mine b.outs y.host_calls call goes brought) in
     let next = later.next in
-    let more = alone id b t next.t later.more later.since (ap length next.host_calls_are) (λ k. sym (goes k)) in
-    let here : beside b sh.t sh.calls ≡ beside b t.terminal t.terminal_calls =
+    let z = next.t in
+    let more = alone id b (session_of w y.host y.host_calls) z later.more later.since (ap length next.host_calls_are) (λ k. sym (goes k)) in
+    let here : beside b sh.t sh.calls ≡ beside b w.terminal w.terminal_calls =
     λ i. beside b (sym x.terminal i) (sym x.terminal_calls i) in
-    let calls_are : next.t.terminal_calls ≡ sh.calls ++ more.made =
-    more.calls_are ∙ ap (λ (cs : List Call). cs ++ more.made) x.terminal_calls in
-    let all : DoesAll (fresh Terminal id) next.t.terminal_calls next.t.terminal =
-    subst (λ (cs : List Call). DoesAll (fresh Terminal id) cs next.t.terminal) (sym calls_are)
-    (does_on sh.calls more.made (fresh Terminal id) sh.t next.t.terminal sh.does
-    (subst (λ (e : End). DoesAll e more.made next.t.terminal) x.terminal more.does)) in
-    let put_is : put next.t.terminal_calls ≡ put sh.calls ++ line_put_by call =
-    next.puts_are ∙ with_last line_put_by mine call ∙ ap (λ (l : List Item). l ++ line_put_by call) (sym sh.puts_are) in
-    let owe : Owes l call n = owes l call n does in
+    let calls_are : z.terminal_calls ≡ sh.calls ++ more.made = more.calls_are ∙ ap (λ (cs : List Call). cs ++ more.made) x.terminal_calls in
+    let all : DoesAll (fresh Terminal id) z.terminal_calls z.terminal =
+    subst (λ (cs : List Call). DoesAll (fresh Terminal id) cs z.terminal) (sym calls_are)
+    (does_on sh.calls more.made (fresh Terminal id) sh.t z.terminal sh.does
+    (subst (λ (e : End). DoesAll e more.made z.terminal) x.terminal more.does)) in
     record {
       acts = sh.acts ++ more.acts;
-      t = next.t.terminal;
-      calls = next.t.terminal_calls;
-      leads = acts_lead_on id sh.acts more.acts (new_program id) (beside b t.terminal t.terminal_calls)
-          (beside b next.t.terminal next.t.terminal_calls)
+      t = z.terminal;
+      calls = z.terminal_calls;
+      leads = acts_lead_on id sh.acts more.acts (new_program id) (beside b w.terminal w.terminal_calls) (beside b z.terminal z.terminal_calls)
           (subst (λ (p : Program). LeadsProgram id (new_program id) sh.acts p) here sh.leads) more.leads;
       does = all;
       terminal_is = next.terminal_is;
@@ -254,8 +262,9 @@ line_went id l n mine b call sh does brought =
       hands_are = next.hands_are;
       outs_are = next.outs_are;
       tied = next.tied;
-      owed = owed_on id sh.calls more.made next.t.terminal_calls next.t.terminal l.question.due n.question.due (line_put_by call) sh.owed all calls_are put_is
-          (owing l call n next.t.terminal next.terminal_is owe);
+      owed = owed_on id sh.calls more.made z.terminal_calls z.terminal l.question.due n.question.due (line_put_by call) sh.owed all calls_are
+          (puts_on mine call sh.calls z.terminal_calls sh.puts_are next.puts_are)
+          (owing l call n z.terminal next.terminal_is (owes l call n does));
     }
 
 lines_went : (id : Id) (l n : Line) (mine : List LineCall) (b : Program) (calls : List LineCall) → Shadow id l mine b
