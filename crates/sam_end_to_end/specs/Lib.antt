@@ -1,3 +1,4 @@
 pub mod Sessions
 pub mod Stopping
 pub mod Delivery
+pub mod Heirs

@@ -1,5 +1,6 @@
 //! The laws of a client and of a durable server, stated by the clauses of functions that do nothing.
 ghost use Rattle.sam_end_to_end.specs.Delivery.{HasAllIsTrue};
+ghost use Rattle.sam_end_to_end.specs.Heirs.{HeirsAreSessions};
 ghost use Rattle.sam_end_to_end.specs.Sessions.{SessionsAreOneRun};
 ghost use Rattle.sam_end_to_end.specs.Stopping.{ClientsStopForFullCounts};
 
@@ -15,4 +16,10 @@ pub fn sessions_are_one_run()
 /// the link, or waits there, in their order; and so it is after each crash.
 pub fn has_all_is_true()
     ensures { HasAllIsTrue }
+{}
+
+/// States that a session which begins with an heir, the server of a program for another terminal that takes the texts over, is one of these
+/// sessions, in which the program adds the files first.
+pub fn heirs_are_sessions()
+    ensures { HeirsAreSessions }
 {}
