@@ -147,7 +147,7 @@ static bool is_edit(sam_client_event kind, const sam_did *did)
         return false;
     if (did->step == SAM_STEP_RECEIVED)
         return did->kind == HDATA || did->kind == HGROWDATA || did->kind == HCUT;
-    return did->step == SAM_STEP_ACTED && did->tag != 0 && (did->gone > 0 || did->came > 0);
+    return did->step == SAM_STEP_ACTED && did->request == 0;
 }
 
 static bool has_room(const sam_changes *changes)

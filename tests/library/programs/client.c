@@ -126,7 +126,7 @@ static uint64_t due_in(void)
 static void begin_client(bool take_over)
 {
     now = 1000;
-    attempt = asked = answered = 0;
+    attempt = newest_request = told_request = 0;
     copy.len = 0;
     WANT(sam_client_new(&client, id, take_over, now), SAM_OK);
     WANT(sam_client_new(&client, id, take_over, now), SAM_MADE);
@@ -285,6 +285,17 @@ static void shows(uint16_t tag, const char *text)
         WANT(runes[i], text[i] == GAP_SIGN ? SAM_GAP : (uint32_t)text[i]);
 }
 
+/* What is shown of a file is this text in UTF-8, all of it loaded. */
+static void shows_utf8(uint16_t tag, const char *utf8)
+{
+    uint8_t bytes[ROOM];
+    uint32_t runes = 0;
+    size_t len = 0;
+    WANT(READ(sam_client_text(&client, tag, 0, bytes, sizeof bytes, &len, &runes)), SAM_OK);
+    WANT(len, strlen(utf8));
+    WANT(memcmp(bytes, utf8, len), 0);
+}
+
 /* A host with the file `a` of this text, and a client that has opened it; loaded, or all of it gaps. */
 static void open_both(const char *text, bool loaded)
 {
@@ -425,7 +436,7 @@ static void has_dot(uint16_t tag, uint32_t start, uint32_t end)
 static void command_line(const char *line)
 {
     sam_event event = {.kind = SAM_EVENT_TYPE_CMD};
-    WANT(sam_client_ask(&client, &event, (const uint8_t *)line, strlen(line), &asked), SAM_OK);
+    WANT(sam_client_ask(&client, &event, (const uint8_t *)line, strlen(line), &newest_request), SAM_OK);
     go_on();
 }
 
@@ -616,14 +627,14 @@ static void replaced_each(void)
     WANT(ask_for(SAM_EVENT_WRITE, 1, 0, 0), SAM_OK);
     go_on();
     each(rows, 3, "\xC3\xB6!J", SAM_OK, 3);
-    shows(1, "Jhll\xC3\xB6!");
+    shows_utf8(1, "Jhll\xC3\xB6!");
     each(beyond, 3, "xyz", SAM_REFUSAL_BAD_POSITION, 1);
-    shows(1, "Jhll\xC3\xB6x!");
+    shows_utf8(1, "Jhll\xC3\xB6x!");
     each(rows, 3, "xy", SAM_NOT_TEXT, 0); /* too few runes, and too many */
     each(rows, 3, "wxyz", SAM_NOT_TEXT, 0);
     each(rows, 3, "\xFFyz", SAM_NOT_TEXT, 0);
     each(NULL, 0, "", SAM_OK, 0);
-    shows(1, "Jhll\xC3\xB6x!");
+    shows_utf8(1, "Jhll\xC3\xB6x!");
     change(&copy, 4, 1, came, 2);
     change(&copy, 1, 1, NULL, 0);
     change(&copy, 0, 0, came + 2, 1);
@@ -763,26 +774,27 @@ static void taken_back(void)
  * acts or is refused; an edit has no number. */
 static void numbers(void)
 {
+    static const uint32_t typed = 'x';
     open_both("hello", true);
-    uint64_t before = asked;
-    WANT(before > 0 && answered == before, 1);
+    uint64_t before = newest_request;
+    WANT(before > 0 && told_request == before, 1);
     requests_told = 0;
     for (int i = 0; i < 2; i++) {
-        WANT(sam_client_replace(&client, 1, 0, 0, BYTES("x")), SAM_OK);
+        type(0, 0, "x", &typed, 1);
         WANT(ask_for(SAM_EVENT_WRITE, 1, 0, 0), SAM_OK);
         WANT(ask_for(SAM_EVENT_WRITE, 1, 0, 0), SAM_OK);
-        WANT(asked, before + 1 + (uint64_t)i);
+        WANT(newest_request, before + 1 + (uint64_t)i);
     }
     WANT(ask_for(SAM_EVENT_SELECT, 1, 0, 99), SAM_OK);
-    WANT(asked, before + 3);
+    WANT(newest_request, before + 3);
     for (int i = 0; i < 2; i++) {
         WANT(ask_for(SAM_EVENT_WRITE, 1, 0, 0), SAM_OK);
-        WANT(asked, before + 4);
+        WANT(newest_request, before + 4);
     }
     WANT(ask_for(SAM_EVENT_SELECT, 1, 0, 1), SAM_OK);
-    WANT(asked, before + 5);
+    WANT(newest_request, before + 5);
     settle();
-    WANT(requests_told == 5 && answered == before + 5, 1);
+    WANT(requests_told == 5 && told_request == before + 5, 1);
     WANT(refused_request, before + 3);
     free_both();
 }
@@ -796,7 +808,7 @@ static void command_file(void)
     settle();
     WANT(ask_for(SAM_EVENT_OPEN_CMD, 0, 0, 0), SAM_OK);
     settle();
-    WANT(sam_client_ask(&client, &event, BYTES(",x/l/c/L/\n"), &asked), SAM_OK);
+    WANT(sam_client_ask(&client, &event, BYTES(",x/l/c/L/\n"), &newest_request), SAM_OK);
     WANT(steps(SAM_CLIENT_STEPPED).step, SAM_STEP_ACTED);
     wants_splice(SAM_SPLICE_WENT, 0, 0, 0);
     wants_splice(SAM_SPLICE_CAME, 0, 10, 0);
@@ -861,7 +873,7 @@ static void refusals(void)
     WANT(ask_for(SAM_EVENT_SELECT, 1, 3, 9), SAM_OK);
     go_on();
     WANT(refused == 1 && refused_event == state.events + 1 && refused_why == SAM_REFUSAL_BAD_POSITION, 1);
-    WANT(refused_request == asked && answered == asked, 1);
+    WANT(refused_request == newest_request && told_request == newest_request, 1);
     WANT(READ(sam_client_fault_place(&client, &number)), SAM_NONE);
     WANT(ask_for(SAM_EVENT_EXIT, 0, 0, 0), SAM_OK);
     settle();
@@ -941,7 +953,7 @@ static void names(void)
     settle();
     WANT(READ(sam_client_current(&client, &tag)), SAM_OK);
     WANT(tag, 2);
-    WANT(sam_client_ask(&client, &event, BYTES("snarf"), &asked), SAM_OK);
+    WANT(sam_client_ask(&client, &event, BYTES("snarf"), &newest_request), SAM_OK);
     settle();
     WANT(ask_for(SAM_EVENT_GET_SNARF, 0, 0, 0), SAM_OK);
     settle();

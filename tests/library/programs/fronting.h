@@ -15,7 +15,7 @@ static sam_link host_end = SAM_LINK_INIT;
 static sam_client client = SAM_CLIENT_INIT;
 static uint64_t now = 1000, attempt; /* of the connection that stands; 0: none */
 static unsigned long steps_told, splices_told, notes_up, notes_down, refused, requests_told;
-static uint64_t asked, answered; /* the numbers of the request that was asked for last, and of the one of which was told last */
+static uint64_t newest_request, told_request; /* the numbers of the request that was asked for last, and of the one that was told last */
 static uint64_t refused_event, refused_request;
 static sam_status refused_why;
 
@@ -81,8 +81,8 @@ static void take_splice(const sam_splice *splice)
 static void hear(sam_client_event told, const sam_did *did)
 {
     if (did->request != 0) {
-        WANT(answered < did->request && did->request <= asked, 1);
-        answered = did->request;
+        WANT(told_request < did->request && did->request <= newest_request, 1);
+        told_request = did->request;
         requests_told++;
     }
     if (told == SAM_CLIENT_STEPPED)
@@ -220,7 +220,7 @@ static void settle(void)
 static sam_status ask_for(sam_event_kind kind, uint16_t tag, uint32_t start, uint32_t number)
 {
     sam_event event = {.kind = kind, .start = start, .number = number, .tag = tag, .version = 2};
-    return sam_client_ask(&client, &event, NULL, 0, &asked);
+    return sam_client_ask(&client, &event, NULL, 0, &newest_request);
 }
 
 /* The user types these runes in the place of `gone` others. */
