@@ -1,0 +1,407 @@
+/*
+ * session_front.h: a client and its user's program, which has a copy of each file: it takes what the user does at once, and then the
+ * splices alone, and is what is shown after each step. Beside it stands what the same edits make of an array of runes, where nothing but
+ * the user's own doings changes a file: then all is done in session_local.h, too. Each rune that is typed from TYPED on is typed once.
+ */
+#ifndef SESSION_FRONT_H
+#define SESSION_FRONT_H
+
+#include "copies.h"
+#include "session_host.h"
+#include "session_local.h"
+
+enum { COMMAND_FILE, FIRST, SECOND, LINES_FILE, FIRST_NEW, MOST_FILES = 8, NO_SUCH_FILE = 40 };
+enum {
+    MOST_TYPED = 60000,
+    MOST_NOTES = 4096,
+    MOST_SPLICES = 32,
+    MOST_SPLICED = 4096,
+    LONG_EDIT = 600,
+    MOST_TOGETHER = 4,
+    MOST_REQUESTS = 1 << 14,
+    KINDS = SAM_EVENT_PASTE_CMD + 1
+};
+
+#define TYPED 0x20000U /* the first rune that is typed once */
+
+/* What a session has beside edits and other doings that no line of the command file is needed for. */
+enum lines { NO_LINES, LINES_AT_REST, LINES_ANY_TIME };
+
+/* A file as the user's program has it. */
+struct copy {
+    struct text shown; /* what the user did at once, and then the splices */
+    struct text whole; /* what his doings make of an array */
+    bool is_wanted;    /* it was asked to be opened, and not to be closed */
+    bool has_text;     /* its text has come since: runes that are typed before come behind it */
+    bool has_dot;      /* no edit came behind the last selection: edits that wait join, so where they meet a dot it may be on either side */
+};
+
+/* A client with its program. */
+struct front {
+    sam_client client;
+    uint64_t now; /* in milliseconds */
+    struct copy copies[MOST_FILES];
+    uint16_t tags;
+    uint64_t request, told; /* the last number that was handed out, and the last that was told */
+    struct {
+        sam_event_kind kind;
+        size_t len;                     /* bytes of its text */
+    } requests[MOST_REQUESTS];          /* by their numbers */
+    struct effect wanted[MOST_EFFECTS]; /* writes, and texts of closed files */
+    size_t wanted_count;
+    uint64_t put[MOST_NOTES], heard[MOST_NOTES]; /* sums of messages */
+    size_t put_count, heard_count;
+    sam_status refused[MOST_REFUSED]; /* why requests were refused, in their order */
+    size_t refused_count;
+};
+static struct front fronts[2];
+static struct front *front = fronts;
+
+static enum lines lines;
+static uint32_t typed_count;
+static uint16_t typed_in[MOST_TYPED]; /* of each rune that was typed the file that has it, or 0 */
+static unsigned long asked[KINDS], acted[KINDS];
+static struct meeting shared_writes = {"writes that wait already", 0}, splices_taken = {"splices", 0}, edits_told = {"edits told", 0},
+                      untold_edits = {"edits without memory", 0}, splices_together = {"splices of many steps", 0},
+                      edits_together = {"edits in one call", 0};
+
+/* Whether all that changes a text is known. */
+static bool is_known(void)
+{
+    return lines != LINES_ANY_TIME;
+}
+
+/* ---- What is shown ---- */
+
+static uint32_t shown_len(uint16_t tag)
+{
+    uint32_t len = 0;
+    sam_status status = sam_client_len(&front->client, tag, &len);
+    WANT(status == SAM_OK || (status == SAM_NONE && len == 0), 1);
+    return len;
+}
+
+static bool is_open(uint16_t tag)
+{
+    sam_file file;
+    WANT(sam_client_file(&front->client, tag, &file), SAM_OK);
+    return file.is_open;
+}
+
+/* The copy of a file is what is shown. */
+static void same_as_shown(uint16_t tag)
+{
+    if (tag < MOST_FILES)
+        same_as_client(&front->client, tag, &front->copies[tag].shown);
+}
+
+static void take_splice(const sam_splice *splice)
+{
+    WANT(splice->tag < MOST_FILES, 1);
+    splices_taken.count++;
+    if (planted != SPLICE_LEFT_OUT || splice->kind != SAM_SPLICE_WENT)
+        take_into(&front->copies[splice->tag].shown, &front->client, splice);
+}
+
+/* ---- What is told ---- */
+
+/* The number of a request is told once, behind that of the request before. */
+static void hear_request(sam_client_event told, const sam_did *did)
+{
+    if (planted == REQUEST_UNTOLD && one_in(50))
+        return;
+    WANT(did->request, front->told + 1);
+    WANT(did->request <= front->request, 1);
+    front->told = did->request;
+    acted[front->requests[did->request % MOST_REQUESTS].kind] += told == SAM_CLIENT_STEPPED;
+}
+
+static void hear_note(void)
+{
+    uint8_t note[SAM_LINK_MOST_NOTE];
+    size_t len = 0;
+    WANT(sam_client_note(&front->client, note, sizeof note, &len), SAM_OK);
+    WANT(front->heard_count < MOST_NOTES, 1);
+    front->heard[front->heard_count++] = sum_of(note, len);
+}
+
+static void hear(sam_client_event told, const sam_did *did)
+{
+    if (told == SAM_CLIENT_NOTE)
+        hear_note();
+    if (did->request != 0)
+        hear_request(told, did);
+    else if (told == SAM_CLIENT_STEPPED && did->step == SAM_STEP_ACTED)
+        edits_told.count++;
+    if (told != SAM_CLIENT_REFUSED)
+        return;
+    WANT(did->request != 0 && front->refused_count < MOST_REFUSED, 1); /* no edit is refused */
+    front->refused[front->refused_count++] = met(did->why);
+}
+
+/* One thing is told, with its splices. */
+static sam_client_event next_event(void)
+{
+    sam_client_event told = SAM_CLIENT_WIDTH;
+    sam_did did;
+    sam_splice splice;
+    sam_status status;
+    while ((status = sam_client_next_event(&front->client, front->now, &told, &did)) == SAM_UNFINISHED) {
+        met(status);
+        if (one_in(3))
+            return SAM_CLIENT_IDLE; /* the program goes on later */
+    }
+    WANT(status, SAM_OK);
+    while (sam_client_next_splice(&front->client, &splice) == SAM_OK)
+        take_splice(&splice);
+    if (told == SAM_CLIENT_STEPPED)
+        same_as_shown(did.tag);
+    hear(told, &did);
+    return told;
+}
+
+/* Many steps in one call, with the runes of their splices. */
+static sam_client_event next_edits(void)
+{
+    static sam_splice splices[MOST_SPLICES];
+    static uint32_t runes[MOST_SPLICED];
+    sam_changes changes = {
+        .splices = splices, .most = 1 + pick(MOST_SPLICES), .runes = runes, .room = SAM_MOST_IN_TYPE + pick(MOST_SPLICED / 2)};
+    sam_client_event told = SAM_CLIENT_IDLE;
+    sam_did did = {.request = 0};
+    sam_splice splice;
+    size_t used = 0;
+    sam_status status = met(sam_client_step_edits(&front->client, front->now, &changes, &told, &did));
+    WANT(status == SAM_OK || status == SAM_UNFINISHED, 1);
+    for (size_t i = 0; i < changes.got; i++) {
+        WANT(splices[i].tag < MOST_FILES, 1);
+        change_by(&front->copies[splices[i].tag].shown, &splices[i], runes + used);
+        used += splices[i].kind == SAM_SPLICE_CAME || splices[i].kind == SAM_SPLICE_FILLED ? splices[i].count : 0;
+    }
+    WANT(used, changes.used);
+    splices_together.count += changes.got;
+    while (sam_client_next_splice(&front->client, &splice) == SAM_OK)
+        take_splice(&splice);
+    for (uint16_t tag = 0; tag < front->tags && changes.got > 0; tag++)
+        same_as_shown(tag);
+    if (status == SAM_OK)
+        hear(told, &did);
+    return told;
+}
+
+/* Goes on until there is nothing to tell. Where memory is short, the program may go on later. */
+static void go_on(void)
+{
+    bool is_together = one_in(4);
+    while ((is_together ? next_edits() : next_event()) != SAM_CLIENT_IDLE)
+        ;
+}
+
+/* ---- Requests ---- */
+
+/* Asks for something. Returns whether it is a request of its own: a write may be one that waits. */
+static bool ask(const sam_event *event, const uint8_t *text, size_t len)
+{
+    uint64_t number = 0;
+    sam_status status;
+    while ((status = met(sam_client_ask(&front->client, event, text, len, &number))) != SAM_OK) {
+        WANT(status == SAM_NO_MEMORY || status == SAM_WAITING, 1);
+        if (status == SAM_WAITING) /* memory was out behind an edit that was put */
+            go_on();
+    }
+    asked[event->kind]++;
+    if (is_known())
+        ask_local(event, text, len);
+    if (number <= front->request) {
+        WANT(event->kind == SAM_EVENT_WRITE && number > front->told && front->requests[number % MOST_REQUESTS].kind == SAM_EVENT_WRITE, 1);
+        shared_writes.count++;
+        return false;
+    }
+    WANT(number, front->request + 1);
+    front->request = number;
+    front->requests[number % MOST_REQUESTS].kind = event->kind;
+    front->requests[number % MOST_REQUESTS].len = len;
+    return true;
+}
+
+static bool ask_for(sam_event_kind kind, uint16_t tag, uint32_t start, uint32_t number)
+{
+    const sam_event event = {.kind = kind, .start = start, .number = number, .tag = tag, .version = 2};
+    return ask(&event, NULL, 0);
+}
+
+static void ask_text(sam_event_kind kind, const char *text)
+{
+    const sam_event event = {.kind = kind};
+    ask(&event, (const uint8_t *)text, strlen(text));
+}
+
+/* An effect that is to come of a request. */
+static void want_effect(sam_effect_kind kind, uint16_t tag)
+{
+    WANT(front->wanted_count < MOST_EFFECTS, 1);
+    front->wanted[front->wanted_count++] = (struct effect){kind, tag, sum_of_text(&front->copies[tag].whole)};
+}
+
+/* A file that is open, and is not asked to be closed; 0 if the one that is drawn is not, or is that of the lines. Where all is known it has
+ * its text. */
+static uint16_t pick_file(void)
+{
+    uint16_t tag = (uint16_t)(FIRST + pick(front->tags - FIRST));
+    struct copy *copy = &front->copies[tag];
+    sam_file file;
+    WANT(sam_client_file(&front->client, tag, &file), SAM_OK);
+    copy->has_text |= file.is_open && !file.is_locked;
+    bool has_text = copy->has_text || !is_known();
+    return tag != LINES_FILE && copy->is_wanted && file.is_open && has_text ? tag : 0;
+}
+
+/* ---- Edits ---- */
+
+/* Some runes: of those that are typed once, or of others. Returns how many. */
+static uint32_t pick_runes(uint32_t *runes)
+{
+    static const uint32_t counts[] = {0, 1, 1, 2, 3}, others[] = {'\n', 'a', 0xE9, 0x65E5};
+    uint32_t count = one_in(20) ? LONG_EDIT : PICK_OF(counts);
+    for (uint32_t i = 0; i < count; i++)
+        if (is_known() && one_in(3))
+            runes[i] = PICK_OF(others);
+        else
+            runes[i] = TYPED + typed_count++;
+    WANT(typed_count < MOST_TYPED, 1);
+    return count;
+}
+
+/* These runes are in the file, or in none. */
+static void note_typed(const uint32_t *runes, uint32_t count, uint16_t tag)
+{
+    for (uint32_t i = 0; i < count; i++)
+        if (runes[i] - TYPED < MOST_TYPED)
+            typed_in[runes[i] - TYPED] = tag;
+}
+
+/* The text has each rune that was typed into the file and not taken out, once, and no other that was typed. */
+static void same_typed(const struct text *text, uint16_t tag)
+{
+    uint32_t left = 0;
+    for (uint32_t i = 0; i < typed_count; i++)
+        left += typed_in[i] == tag;
+    for (uint32_t i = 0; i < text->len; i++) {
+        uint32_t number = text->runes[i] - TYPED;
+        if (number >= MOST_TYPED)
+            continue;
+        WANT(typed_in[number] == tag && left > 0, 1);
+        typed_in[number] = 0, left--; /* so that it is found once */
+    }
+    WANT(left, 0);
+    note_typed(text->runes, text->len, tag);
+}
+
+static bool has_gap(const uint32_t *runes, uint32_t count)
+{
+    for (uint32_t i = 0; i < count; i++)
+        if (runes[i] == SAM_GAP)
+            return true;
+    return false;
+}
+
+/* Replaces shown runes of a file. Returns false, and nothing is changed, if there was no memory even when it was tried again. */
+static bool is_replaced(uint16_t tag, uint32_t start, uint32_t end, const uint8_t *bytes, size_t len)
+{
+    sam_status status = SAM_NO_MEMORY;
+    for (int tries = 0; tries < MOST_TRIES && status == SAM_NO_MEMORY; tries++)
+        status = met(sam_client_replace(&front->client, tag, start, end, bytes, len));
+    if (status == SAM_OK)
+        return true;
+    WANT(status, SAM_NO_MEMORY); /* an edit was put before, and waits for memory */
+    same_as_shown(tag);
+    untold_edits.count++;
+    return false;
+}
+
+/* The user's runes have taken the place of others, which are shown no more. */
+static void note_edit(uint16_t tag, uint32_t start, uint32_t gone, const uint32_t *runes, uint32_t came)
+{
+    static uint8_t bytes[MOST_RUNE_BYTES * LONG_EDIT];
+    struct copy *copy = &front->copies[tag];
+    note_typed(copy->shown.runes + start, gone, 0);
+    note_typed(runes, came, tag);
+    change(&copy->shown, start, gone, runes, came);
+    copy->has_dot = false;
+    if (!is_known())
+        return;
+    replace_local(tag, start, start + gone, bytes, spell(runes, came, bytes));
+    if (planted != EDIT_FORGOTTEN || !one_in(30))
+        change(&copy->whole, start, gone, runes, came);
+}
+
+/* The user replaces some runes of a file. Where others change it, too, he takes out none that he doesn't see. */
+static void edit_file(uint16_t tag)
+{
+    static uint32_t runes[LONG_EDIT];
+    static uint8_t bytes[MOST_RUNE_BYTES * LONG_EDIT];
+    static const uint32_t counts[] = {0, 0, 0, 1, 5};
+    const struct text *shown = &front->copies[tag].shown;
+    uint32_t start = pick(shown->len + 1), gone = PICK_OF(counts);
+    if (gone > shown->len - start || (!is_known() && has_gap(shown->runes + start, gone)))
+        gone = 0;
+    uint32_t came = shown->len > MOST_KEPT / 2 ? 0 : pick_runes(runes);
+    if (!is_replaced(tag, start, start + gone, bytes, spell(runes, came, bytes)))
+        return;
+    note_edit(tag, start, gone, runes, came);
+    same_as_shown(tag);
+}
+
+/* The user replaces runes at some places, by one call: each place is one of the text that the replacements before have left. */
+static void edit_places(uint16_t tag)
+{
+    sam_replacement rows[MOST_TOGETHER];
+    uint32_t runes[MOST_TOGETHER], len = front->copies[tag].shown.len;
+    uint8_t bytes[MOST_RUNE_BYTES * MOST_TOGETHER];
+    size_t count = 2 + pick(MOST_TOGETHER - 1), made = 0;
+    for (size_t i = 0; i < count; i++) {
+        uint32_t start = pick(len + 1), gone = is_known() && start < len && one_in(3);
+        rows[i] = (sam_replacement){.start = start, .end = start + gone, .count = 1};
+        runes[i] = TYPED + typed_count++;
+        len += 1 - gone;
+    }
+    sam_status status = sam_client_replace_each(&front->client, tag, rows, count, bytes, spell(runes, (uint32_t)count, bytes), &made);
+    WANT(met(status) == SAM_NO_MEMORY || (status == SAM_OK && made == count), 1);
+    for (size_t i = 0; i < made; i++)
+        note_edit(tag, rows[i].start, rows[i].end - rows[i].start, &runes[i], 1);
+    same_as_shown(tag);
+    edits_together.count += made;
+}
+
+/* ---- Beginning ---- */
+
+/* A client that shows no file yet, and these copies of the files: each has its name at the server. */
+static void begin_front(const uint8_t *id, bool takes_over)
+{
+    struct front *made = front;
+    made->now = 1000;
+    made->request = made->told = 0;
+    made->wanted_count = made->put_count = made->heard_count = made->refused_count = 0;
+    for (uint16_t tag = 0; tag < MOST_FILES; tag++)
+        made->copies[tag].shown.len = made->copies[tag].whole.len = made->copies[tag].is_wanted = made->copies[tag].has_text =
+            made->copies[tag].has_dot = 0;
+    DONE(sam_client_new(&made->client, id, takes_over, made->now));
+}
+
+/* The user opens a file. */
+static void open_file(uint16_t tag)
+{
+    ask_for(SAM_EVENT_OPEN, tag, 0, 0);
+    front->copies[tag].is_wanted = true;
+}
+
+static void open_files(void)
+{
+    ask_for(SAM_EVENT_OFFER_VERSION, 0, 0, 0);
+    ask_for(SAM_EVENT_OPEN_CMD, 0, 0, 0);
+    for (uint16_t tag = FIRST; tag < front->tags; tag++)
+        if (tag != LINES_FILE || lines != NO_LINES)
+            open_file(tag);
+}
+
+#endif
