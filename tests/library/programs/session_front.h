@@ -31,6 +31,7 @@ enum lines { NO_LINES, LINES_AT_REST, LINES_ANY_TIME };
 struct copy {
     struct text shown; /* what the user did at once, and then the splices */
     struct text whole; /* what his doings make of an array */
+    uint64_t saved;    /* the sum of the array as it was written last, or began */
     bool is_wanted;    /* it was asked to be opened, and not to be closed */
     bool has_text;     /* its text has come since: runes that are typed before come behind it */
     bool has_dot;      /* no edit came behind the last selection: edits that wait join, so where they meet a dot it may be on either side */
@@ -236,6 +237,18 @@ static void ask_text(sam_event_kind kind, const char *text)
     ask(&event, (const uint8_t *)text, strlen(text));
 }
 
+/* The array is what was written last: edits that wait may have come to nothing, and then the file was never changed at the host. */
+static bool is_as_saved(uint16_t tag)
+{
+    return sum_of_text(&front->copies[tag].whole) == front->copies[tag].saved;
+}
+
+/* The array is what a file has at the host, or what is to be written. */
+static void note_saved(uint16_t tag)
+{
+    front->copies[tag].saved = sum_of_text(&front->copies[tag].whole);
+}
+
 /* An effect that is to come of a request. */
 static void want_effect(sam_effect_kind kind, uint16_t tag)
 {
@@ -375,6 +388,14 @@ static void edit_places(uint16_t tag)
 
 /* ---- Beginning ---- */
 
+static void begin_copy(uint16_t tag)
+{
+    struct copy *copy = &front->copies[tag];
+    copy->shown.len = copy->whole.len = 0;
+    copy->is_wanted = copy->has_text = copy->has_dot = false;
+    note_saved(tag);
+}
+
 /* A client that shows no file yet, and these copies of the files: each has its name at the server. */
 static void begin_front(const uint8_t *id, bool takes_over)
 {
@@ -383,8 +404,7 @@ static void begin_front(const uint8_t *id, bool takes_over)
     made->request = made->told = 0;
     made->wanted_count = made->put_count = made->heard_count = made->refused_count = 0;
     for (uint16_t tag = 0; tag < MOST_FILES; tag++)
-        made->copies[tag].shown.len = made->copies[tag].whole.len = made->copies[tag].is_wanted = made->copies[tag].has_text =
-            made->copies[tag].has_dot = 0;
+        begin_copy(tag);
     DONE(sam_client_new(&made->client, id, takes_over, made->now));
 }
 

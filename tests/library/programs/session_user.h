@@ -55,23 +55,21 @@ static void write_file(void)
     if (tag == 0)
         return;
     bool is_own = ask_for(SAM_EVENT_WRITE, tag, 0, 0);
+    note_saved(tag);
     if (is_own && !(planted == WRITE_UNKNOWN && one_in(8)))
         want_effect(SAM_EFFECT_WRITE, tag);
 }
 
-/* The user closes a file for good. Of one that is dirty the server tells what it held. */
+/* The user closes a file for good that he has changed. The server tells what it held. */
 static void close_file(void)
 {
     uint16_t tag = pick_file();
-    bool is_dirty = false;
-    if (tag == 0 || !is_known())
+    if (tag == 0 || !is_known() || is_as_saved(tag))
         return;
-    WANT(sam_host_is_dirty(&local_host, tag, &is_dirty), SAM_OK);
     ask_for(SAM_EVENT_CLOSE, tag, 0, 0);
     front->copies[tag].is_wanted = false;
     refuses_edit(tag, 0, 0, BYTES("x"), SAM_REFUSAL_NOT_OPEN);
-    if (is_dirty)
-        want_effect(SAM_EFFECT_CLOSE, tag);
+    want_effect(SAM_EFFECT_CLOSE, tag);
     closed.count++;
 }
 
@@ -80,7 +78,7 @@ static void make_file(void)
     if (front->tags == MOST_FILES)
         return;
     ask_for(SAM_EVENT_NEW_FILE, 0, 0, 0);
-    front->copies[front->tags].whole.len = 0;
+    begin_copy(front->tags);
     front->copies[front->tags++].is_wanted = true;
     made_files.count++;
 }

@@ -9,14 +9,14 @@
  * a network (session_local.h); so is each text that is written. In some sessions command lines change the files at any time: there no
  * rune of the user's is lost or comes back. What is held in memory is bounded by the texts and by what is under way, and all is given back.
  *
- * In the last part of a run one short session is made again and again, and each request for memory is refused in turn: all ends as if none
- * was. It ends with status 0; or 1 and what is wrong, or what was never met. With the number of a FAULT it is to fail (session_host.h).
+ * In the last part of a whole run some short sessions are made again and again, and each request for memory is refused in turn: all ends as if
+ * none was. It ends with status 0; or 1 and what is wrong, or what was never met. With the number of a FAULT it is to fail (session_host.h).
  */
 #include "session_user.h"
 #include "session_wire.h"
 
-enum { SESSIONS = 600, SEED = 90, TURNS = 200, MOST_TURNS = 4000, LEFT_TURNS = 30, LONGEST = 40000, SHORT = 2000, LOADED = 1000000 };
-enum { MOST_ANEW = 200000, MOST_FOR_A_BYTE = 24, SHORT_TURNS = 12 };
+enum { SESSIONS = 500, SEED = 90, TURNS = 200, MOST_TURNS = 4000, LEFT_TURNS = 30, LONGEST = 40000, SHORT = 2000, LOADED = 1000000 };
+enum { MOST_ANEW = 200000, MOST_FOR_A_BYTE = 24, SHORT_TURNS = 20, IN_TURN = 6, IN_A_ROW = 3 };
 
 static bool has_takeovers, has_closes, has_marks, has_joins;
 static uint64_t session_seed;
@@ -195,7 +195,7 @@ static void same_file(uint16_t tag)
     if (tag == COMMAND_FILE || front->copies[tag].has_dot)
         WANT(file.dot_start == should.dot_start && file.dot_end == should.dot_end, 1);
     WANT(file.view_start == should.view_start && file.view_end == should.view_end, 1);
-    WANT(was_marked || (file.is_dirty == should.is_dirty && file.is_changed == should.is_changed), 1);
+    WANT(was_marked || file.is_changed == should.is_changed || (should.is_changed && is_as_saved(tag)), 1);
     WANT(sam_server_has_file(&host->server, tag, &has), SAM_OK);
     WANT(sam_host_has_file(&local_host, tag, &local_has), SAM_OK);
     WANT(has, local_has);
@@ -280,6 +280,7 @@ static void join(void)
         return;
     join_file(tag);
     first_text(&front->copies[tag].whole, tag);
+    note_saved(tag);
     if (is_known())
         join_local(names[tag], &front->copies[tag].whole);
     front->tags++;
@@ -372,6 +373,7 @@ static void begin_with_heir(struct host_program *old)
         WANT(len == other_len && memcmp(name, other_name, len) == 0, 1);
         text_of_server(&old->server, &text, tag);
         text_of_server(&host->server, &front->copies[tag].whole, tag);
+        note_saved(tag);
         WANT(is_same_text(&text, &front->copies[tag].whole), true);
         note_typed(text.runes, text.len, tag);
         if (is_known())
@@ -499,7 +501,7 @@ static const struct {
     {edit, 280},       {edit_many, 30},    {write_file, 60},   {select_runes, 60}, {look_round, 80},   {show_part, 40},
     {of_session, 16},  {type_command, 20}, {put_note, 40},     {tend_line, 16},    {edit_wrongly, 16}, {ask_wrongly, 12},
     {ask_too_much, 1}, {run, 60},          {change_files, 24}, {mark, 20},         {host_says, 24},    {break_off, 24},
-    {crash, 24},       {fall_silent, 5},   {come_late, 20},    {take_over, 4},
+    {crash, 24},       {fall_silent, 5},   {come_late, 20},    {take_over, 6},
 };
 
 static void happen(void)
@@ -574,6 +576,7 @@ static void begin(uint64_t seed)
         uint16_t tag = front->tags;
         join_file(tag);
         first_text(&front->copies[tag].whole, tag);
+        note_saved(tag);
         join_local(names[tag], &front->copies[tag].whole);
     }
     keep_all();
@@ -670,7 +673,7 @@ static bool all_met(void)
     return missing == 0;
 }
 
-/* One short session again and again, in which each request for memory is refused in turn. Returns how many there are. */
+/* One short session again and again, in which so many requests for memory in a row are refused, from each on. Returns how many there are. */
 static unsigned long refuse_in_turn(uint64_t seed, uint64_t count)
 {
     uint64_t first = 1, before = 0;
@@ -694,9 +697,11 @@ int main(int argc, char **argv)
         session(number, TURNS);
     }
     refuse_memory(0, 0);
-    unsigned long in_turn = planted == NOTHING_PLANTED ? refuse_in_turn(seed, 1) : 0;
+    unsigned long in_turn = 0;
+    for (uint64_t number = seed; number < seed + IN_TURN && count >= SESSIONS; number++)
+        in_turn += refuse_in_turn(number, number % 2 == 0 ? 1 : IN_A_ROW);
     is_over = true;
-    if (planted == NOTHING_PLANTED)
+    if (count >= SESSIONS)
         printf("%lu requests for memory refused in turn\n", in_turn);
     if (count >= SESSIONS && !all_met())
         return 1;
