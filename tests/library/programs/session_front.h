@@ -63,8 +63,8 @@ static uint32_t typed_count;
 static uint16_t typed_in[MOST_TYPED]; /* of each rune that was typed the file that has it, or 0 */
 static unsigned long asked[KINDS], acted[KINDS];
 static struct meeting shared_writes = {"writes that wait already", 0}, splices_taken = {"splices", 0}, edits_told = {"edits told", 0},
-                      untold_edits = {"edits without memory", 0}, splices_together = {"splices of many steps", 0},
-                      edits_together = {"edits in one call", 0};
+                      notes_heard = {"messages heard", 0}, untold_edits = {"edits without memory", 0},
+                      splices_together = {"splices of many steps", 0}, edits_together = {"edits in one call", 0};
 
 /* Whether all that changes a text is known. */
 static bool is_known(void)
@@ -123,6 +123,7 @@ static void hear_note(void)
     size_t len = 0;
     WANT(sam_client_note(&front->client, note, sizeof note, &len), SAM_OK);
     WANT(front->heard_count < MOST_NOTES, 1);
+    notes_heard.count++;
     front->heard[front->heard_count++] = sum_of(note, len);
 }
 

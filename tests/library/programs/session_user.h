@@ -19,8 +19,8 @@ static const struct command_line {
 };
 enum { COMMAND_LINES = sizeof command_lines / sizeof command_lines[0] };
 
-static struct meeting closed = {"closed files", 0}, made_files = {"new files", 0}, crowds = {"crowds of requests", 0},
-                      lines_at_rest = {"lines at rest", 0}, lines_any_time = {"lines at any time", 0},
+static struct meeting notes_put = {"messages put", 0}, closed = {"closed files", 0}, made_files = {"new files", 0},
+                      crowds = {"crowds of requests", 0}, lines_at_rest = {"lines at rest", 0}, lines_any_time = {"lines at any time", 0},
                       lines_sent = {"lines that were sent", 0};
 
 /* ---- Files ---- */
@@ -225,6 +225,7 @@ static void put_note(void)
     pick_bytes(note, len);
     DONE(sam_client_put_note(&front->client, note, len, front->now));
     WANT(front->put_count < MOST_NOTES, 1);
+    notes_put.count++;
     if (planted != NOTE_UNKNOWN || !one_in(4))
         front->put[front->put_count++] = sum_of(note, len);
 }

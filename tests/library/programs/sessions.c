@@ -247,7 +247,7 @@ static void rest(void)
 
 static struct meeting crashes = {"crashes", 0}, breaks = {"breaks", 0}, silences = {"silent connections", 0}, takeovers = {"takeovers", 0},
                       lost_takeovers = {"takeovers that a crash undid", 0}, joins = {"files that join", 0}, marks = {"marks", 0},
-                      writes = {"writes", 0}, exits = {"exits", 0};
+                      writes = {"writes", 0}, host_notes = {"messages of the host", 0}, exits = {"exits", 0};
 
 static const char *const texts[] = {"", "a", "one two\nthree\n", "ba-na-na\nboom\n", "\xE6\x97\xA5\xE6\x9C\xAC \xC3\xA9\n"};
 static const char *const names[MOST_FILES] = {"", "first", "second", "lines", "third", "fourth", "fifth", "sixth"};
@@ -340,6 +340,7 @@ static void host_says(void)
     size_t len = pick(sizeof words);
     pick_bytes(words, len);
     TAKES(sam_server_say(&host->server, words, len));
+    host_notes.count++;
     TAKES(sam_server_acknowledge(&host->server));
     TAKES(sam_server_ask(&host->server));
 }
@@ -661,11 +662,11 @@ static bool all_met(void)
                                           SAM_LINK_NO_SESSION,
                                           SAM_LINK_OTHER_SESSION,
                                           SAM_SERVER_EFFECT_WAITS};
-    const struct meeting rows[] = {connections, breaks,        silences,      drops,         lost_up,          lost_down,      untold_edits,
-                                   late,        crashes,       torn,          takeovers,     lost_takeovers,   joins,          marks,
-                                   writes,      failed_writes, closed,        made_files,    lines_at_rest,    lines_any_time, lines_sent,
-                                   crowds,      exits,         shared_writes, splices_taken, splices_together, edits_together, edits_told,
-                                   unfinished};
+    const struct meeting rows[] = {notes_put,        notes_heard,    host_notes,   connections, breaks,        silences,      drops,
+                                   lost_up,          lost_down,      untold_edits, late,        crashes,       torn,          takeovers,
+                                   lost_takeovers,   joins,          marks,        writes,      failed_writes, closed,        made_files,
+                                   lines_at_rest,    lines_any_time, lines_sent,   crowds,      exits,         shared_writes, splices_taken,
+                                   splices_together, edits_together, edits_told,   unfinished};
     unsigned long missing = tell_met(rows, sizeof rows / sizeof rows[0], statuses, sizeof statuses / sizeof statuses[0]);
     for (int kind = SAM_EVENT_SELECT; kind < KINDS; kind++)
         if (acted[kind] == 0)
