@@ -11,8 +11,8 @@
 
 enum { FRAME_ROOM = 4096, FRAME_HEAD = 3, STAMP_BYTES = 8, MOST_PLACE = 300, SAID_FILES = 4, FIRST_HOST_KIND = 65 };
 
-/* A kind of frame, as docs/reference/PROTOCOL.md has it. Its fields: t, a tag; v, a number of two bytes; p, a place; c, a count; s, a text; n, a short one.
- * After a rare one little more is said. */
+/* A kind of frame, as docs/reference/PROTOCOL.md has it. Its fields: t, a tag; v, a number of two bytes; p, a place; c, a count; s, a text;
+ * n, a short one. After a rare one little more is said. */
 static const struct frame_kind {
     uint8_t number;
     const char *fields;

@@ -9,14 +9,15 @@
  * a network (session_local.h); so is each text that is written. In some sessions command lines change the files at any time: there no
  * rune of the user's is lost or comes back. What is held in memory is bounded by the texts and by what is under way, and all is given back.
  *
- * In the last part of a whole run some short sessions are made again and again, and each request for memory is refused in turn: all ends as if
- * none was. It ends with status 0; or 1 and what is wrong, or what was never met. With the number of a FAULT it is to fail (session_host.h).
+ * In the last part of a whole run some short sessions are made again and again, and each request for memory is refused in turn: all ends
+ * as if none was. It ends with status 0; or 1 and what is wrong, or what was never met. With the number of a FAULT it is to fail
+ * (session_host.h).
  */
 #include "session_user.h"
 #include "session_wire.h"
 
-enum { SESSIONS = 500, SEED = 90, TURNS = 200, MOST_TURNS = 4000, LEFT_TURNS = 30, LONGEST = 40000, SHORT = 2000, LOADED = 1000000 };
-enum { MOST_ANEW = 200000, MOST_FOR_A_BYTE = 24, SHORT_TURNS = 20, IN_TURN = 6, IN_A_ROW = 3 };
+enum { SESSIONS = 400, SEED = 90, TURNS = 200, MOST_TURNS = 4000, LEFT_TURNS = 30, LONGEST = 40000, SHORT = 2000, LOADED = 1000000 };
+enum { MOST_ANEW = 200000, MOST_FOR_A_BYTE = 24, SHORT_TURNS = 20, IN_TURN = 4, IN_A_ROW = 3 };
 
 static bool has_takeovers, has_closes, has_marks, has_joins;
 static uint64_t session_seed;
@@ -584,6 +585,8 @@ static void begin(uint64_t seed)
     open_files();
     if (!one_in(4))
         come_to_rest();
+    else if (one_in(4))
+        take_over(); /* before a host has welcomed the first terminal */
 }
 
 /* The user ends the session, and nothing is taken any more. */
@@ -674,7 +677,7 @@ static bool all_met(void)
     return missing == 0;
 }
 
-/* One short session again and again, in which so many requests for memory in a row are refused, from each on. Returns how many there are. */
+/* A short session again and again, in which so many requests for memory in a row are refused, from each on. Returns how many there are. */
 static unsigned long refuse_in_turn(uint64_t seed, uint64_t count)
 {
     uint64_t first = 1, before = 0;
