@@ -3,3 +3,4 @@ pub mod Owing
 pub mod Sessions
 pub mod Delivery
 pub mod Heirs
+pub mod Journals

@@ -2,3 +2,4 @@ pub mod Sessions
 pub mod Stopping
 pub mod Delivery
 pub mod Heirs
+pub mod Journals

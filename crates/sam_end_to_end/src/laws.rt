@@ -1,6 +1,7 @@
 //! The laws of a client and of a durable server, stated by the clauses of functions that do nothing.
 ghost use Rattle.sam_end_to_end.specs.Delivery.{HasAllIsTrue};
 ghost use Rattle.sam_end_to_end.specs.Heirs.{HeirsAreSessions};
+ghost use Rattle.sam_end_to_end.specs.Journals.{JournalsAreCrashes};
 ghost use Rattle.sam_end_to_end.specs.Sessions.{SessionsAreOneRun};
 ghost use Rattle.sam_end_to_end.specs.Stopping.{ClientsStopForFullCounts};
 
@@ -22,4 +23,10 @@ pub fn has_all_is_true()
 /// sessions, in which the program adds the files first.
 pub fn heirs_are_sessions()
     ensures { HeirsAreSessions }
+{}
+
+/// States that a crash of a session whose program keeps its records in a file of sam_journal is one of these events: of whatever front the
+/// crash leaves, with all that was durable, `read` answers the first so many records, and their bodies lead on.
+pub fn journals_are_crashes()
+    ensures { JournalsAreCrashes }
 {}

@@ -1,5 +1,5 @@
 -- A program that keeps its records in a file of sam_journal: what a crash leaves of the file is read, and is a crash of the program.
-use Rattle.std.specs.Prelude.{◌≡◌, ℕ, ◌+◌, ◌≤◌, List, [], ◌∷◌, ◌++◌, length, map, take, Result, Ok, Err}
+use Rattle.std.specs.Prelude.{◌≡◌, ℕ, ◌+◌, ◌≤◌, List, [], ◌∷◌, ◌++◌, length, map, take, Result, Ok}
 use Rattle.sam_journal.specs.Files.{IsJournal, NamesNoMore, Reads, file_bytes}
 use Rattle.sam_journal.specs.Records.{Entry}
 use Rattle.sam_journal.specs.declared.reading.Journal.{Journal}
