@@ -162,16 +162,15 @@ static sam_status take_splices(sam_client *client, sam_changes *changes)
 
     while (status == SAM_OK && has_room(changes)) {
         sam_splice *splice = &changes->splices[changes->got];
-        uint32_t count = 0;
         status = sam_client_next_splice(client, splice);
         if (status != SAM_OK)
             break;
         if (splice->kind != SAM_SPLICE_WENT) {
             size_t room = changes->room - changes->used;
             room = splice->count < room ? splice->count : room; /* no frame of these brings more than there is room for */
-            status = sam_client_read(client, splice->tag, splice->place, &changes->runes[changes->used], room, &count);
+            status = sam_client_read(client, splice->tag, splice->place, &changes->runes[changes->used], room, &splice->count);
+            changes->used += splice->count;
         }
-        changes->used += count;
         ++changes->got;
     }
     return status;
@@ -179,8 +178,7 @@ static sam_status take_splices(sam_client *client, sam_changes *changes)
 
 sam_status sam_client_step_edits(sam_client *client, uint64_t now, sam_changes *changes, sam_client_event *kind, sam_did *did)
 {
-    size_t requests;
-    sam_status status = sam_client_requests(client, &requests); /* it tells whether the handle is made */
+    sam_status status = sam_client_requests(client, &changes->got); /* it tells whether the handle is made */
 
     if (status != SAM_OK)
         return status;
