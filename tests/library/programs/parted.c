@@ -15,7 +15,7 @@ static uint64_t state;
 static bool sends;
 static unsigned long edits, lines, writes, notes, breaks;
 static struct text alone; /* what the edits make on one machine */
-static struct text asked; /* the same when the last write was asked for */
+static struct text saved; /* the same when the last write was asked for */
 static long signs;        /* how many the user has typed and not taken out again */
 
 /* A number below `below`, by xorshift. */
@@ -85,7 +85,7 @@ static void user(void)
     switch (pick(ALL_KINDS)) {
     case 0:
         writes++;
-        asked = alone;
+        saved = alone;
         event(SAM_EVENT_WRITE, EDITED, 0, 0);
         break;
     case 1:
@@ -184,8 +184,8 @@ static void rest(void)
     WANT(notes_up == notes && notes_down == notes && refused == 0, 1);
     if (!sends && writes > 0) {
         WANT(sam_host_saved(&host, EDITED, 0, bytes, sizeof bytes, &count, &runes), SAM_OK);
-        WANT(runes, asked.len);
-        WANT(is_spelled(&asked, bytes, count), true);
+        WANT(runes, saved.len);
+        WANT(is_spelled(&saved, bytes, count), true);
     }
     if (!sends)
         WANT(alone.len == copy.len && memcmp(alone.runes, copy.runes, copy.len * sizeof *copy.runes) == 0, 1);
