@@ -1495,6 +1495,7 @@ SAM_MUST_USE sam_status sam_line_words(sam_line *line, uint8_t *into, size_t roo
  *     sam_client_next_splice(&client, &splice)          at SAM_CLIENT_STEPPED: each goes into the editor's own text, until SAM_NONE
  *     sam_client_note(&client, ..)                      at SAM_CLIENT_NOTE: a message of the host's program
  *     sam_client_take_out(&client, attempt, ..)         bytes for the connection, until it hands out 0
+ *     sam_client_expect(&client, waits, now)            whether it waits for the host, as while sam_client_has_all is false
  *     sam_client_due_in(&client, now, &left)            the program may sleep so long, or until bytes or keys come
  *
  * The editor's own text is the shown text, if it takes each splice before it tells of an edit. Places count runes and gaps of the shown

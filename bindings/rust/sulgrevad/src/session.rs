@@ -204,8 +204,17 @@ where
                 Err(why) => return Err(SessionError::Stopped(why)),
             }
         }
+        self.expect();
         self.send();
         Ok(has_told)
+    }
+
+    /// Tells the line whether an answer of the host is due. It knows of acknowledgements alone, which may come before a connection dies.
+    fn expect(&mut self) {
+        let state = self.client.state();
+        let is_locked = state.command_locked || (0..=u16::MAX).take(state.tags).any(|tag| self.client.file(tag).is_locked);
+        let waits = is_locked || !self.client.has_all();
+        self.client.expect(waits, self.now());
     }
 
     /// Does what the client wants of the connection at this time.
