@@ -109,6 +109,7 @@ class PowerCuts:
         made(self.folder, a="")
         with Staying(self.folder, "a.txt", prefix=self.traced(), kind=sulgrevad.Link) as session:
             while self.cuts < cuts:
+                session.carry(lambda: session.process is not None, "no line is there")  # all may have been acknowledged before the cut
                 self.type(session)
                 self.cut(session)
                 while self.numbers.random() < 0.3:  # and again, while the next samhost begins
