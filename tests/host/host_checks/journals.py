@@ -143,10 +143,18 @@ def check_journal_goes_on(folder):
     expect_equal([name for name in names_in(folder) if "sam" in name], [], "the copies that are left")
 
 
+def name_of(pid):
+    """What a process is called, with a newline behind it; None if it has ended."""
+    try:
+        return Path(f"/proc/{pid}/comm").read_text()
+    except (FileNotFoundError, ProcessLookupError):
+        return None
+
+
 def children_of(pid):
     """The processes that a samhost has begun, and that have not ended."""
     children = map(int, Path(f"/proc/{pid}/task/{pid}/children").read_text().split())
-    return [child for child in children if is_running(child) and Path(f"/proc/{child}/comm").read_text() == "samhost\n"]
+    return [child for child in children if is_running(child) and name_of(child) == "samhost\n"]
 
 
 def check_journal_is_read_on_without_its_relay(folder):
@@ -157,8 +165,7 @@ def check_journal_is_read_on_without_its_relay(folder):
     with killed(folder) as session:
         session.prefix = ("strace", "-D", "-f", "-qq", "-o", "/dev/null", "-e", "inject=bind:delay_enter=2000000")
         session.attach()
-        wait_until(lambda: children_of(session.process.pid), "it begins no process")
-        (child,) = children_of(session.process.pid)
+        (child,) = wait_until(lambda: children_of(session.process.pid), "it begins no process")
         session.drop()
         expect_equal((session.text(), pid_of(folder, session.name)), ("one\ntwo\n", child), "the text, and the process that has it")
         session.leave()
