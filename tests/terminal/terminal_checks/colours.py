@@ -4,8 +4,9 @@ import os
 import random
 import re
 import time
+from unittest.mock import patch
 
-from checks import Skipped
+from checks import GIVEN_UP, Skipped
 
 from .slow_line import QUIET_LOOP, least_loop
 from .support import Session, expect, made, stat_of, wait_until
@@ -113,30 +114,38 @@ def check_colours_are_those_of_pygments(folder):
         expect(any(colour_of_each(looked_at(language, text), text)), f"{name}: nothing has a colour")
 
 
+def expect_followed(name, text):
+    """After any change of a text its colours are those of the text looked at anew."""
+    from terminal.view.colours import Language
+    from terminal.text.texts import Change
+
+    language, numbers = Language(name), random.Random(1)
+    file, wrong = looked_at(language, text), 0
+    for _ in range(CHANGES):
+        place = numbers.randrange(len(text) + 1)
+        gone, came = text[place : place + numbers.choice((0, 0, 1, 5, 60))], numbers.choice(PIECES)
+        text = text[:place] + came + text[place + len(gone) :]
+        file.hear([Change(1, place, gone, came)])
+        read = lambda at, count: text[at : at + count]  # noqa: E731, B023
+        file.look(read, 0, len(text), len(text), lambda: False)
+        got, wanted = (colour_of_each(each, text) for each in (file, looked_at(language, text)))
+        wrong += got != wanted
+        anew = file.anew(0)
+        anew.look(read, 0, len(text), len(text), lambda: False)
+        got = colour_of_each(anew, text)
+        expect(got == wanted, f"{name}: after {came!r} for {gone!r} at {place} the colours are others than of {text!r} alone")
+    expect(wrong < CHANGES // 10, f"{name}: after {wrong} of {CHANGES} changes the colours are not at once those of the text")
+
+
 def check_colours_follow(folder):
     """After any change the colours are those of the text looked at anew: at once, unless it ends what was begun above it, and else once
     the user rests."""
     expect_pygments()
-    from terminal.view.colours import Language
-    from terminal.text.texts import Change
+    from terminal.view import colours
 
-    for name, text in SAMPLES.items():
-        language, numbers = Language(name), random.Random(1)
-        file, wrong = looked_at(language, text), 0
-        for _ in range(CHANGES):
-            place = numbers.randrange(len(text) + 1)
-            gone, came = text[place : place + numbers.choice((0, 0, 1, 5, 60))], numbers.choice(PIECES)
-            text = text[:place] + came + text[place + len(gone) :]
-            file.hear([Change(1, place, gone, came)])
-            read = lambda at, count: text[at : at + count]  # noqa: E731, B023
-            file.look(read, 0, len(text), len(text), lambda: False)
-            got, wanted = (colour_of_each(each, text) for each in (file, looked_at(language, text)))
-            wrong += got != wanted
-            anew = file.anew(0)
-            anew.look(read, 0, len(text), len(text), lambda: False)
-            got = colour_of_each(anew, text)
-            expect(got == wanted, f"{name}: after {came!r} for {gone!r} at {place} the colours are others than of {text!r} alone")
-        expect(wrong < CHANGES // 10, f"{name}: after {wrong} of {CHANGES} changes the colours are not at once those of the text")
+    with patch.object(colours, "LIMIT", colours.TimeLimit(GIVEN_UP)):  # else a line that takes long on a busy machine is plain
+        for name, text in SAMPLES.items():
+            expect_followed(name, text)
 
 
 def check_colours_in_pieces(folder):
