@@ -312,7 +312,7 @@ rests-run (Held n (Some g)) = none-there n ∙ ap not (sym (and-true (nat_lt 0 n
 rests-run (Typed s b d) = none-there s.count ∙ ap not (sym (and-true (nat_lt 0 s.count)))
 
 -- nothing waits exactly if no edit of any group is left
-rests-left : (xs : List Run) → rests xs ≡ not (has_next None xs)
+pub rests-left : (xs : List Run) → rests xs ≡ not (has_next None xs)
 rests-left [] = refl
 rests-left (x ∷ xs) = ap (λ z. z && rests xs) (rests-run x) ∙ (ap (λ z. not (is_due (Removes None) x || is_due (Inserts None) x) && z) (rests-left xs)
     ∙ order (is_due (Removes None) x) (is_due (Inserts None) x) (has_due (Removes None) xs) (has_due (Inserts None) xs))
@@ -426,3 +426,5 @@ room-made (Typed s b d) = omega arith
 pub ruleset length_facts = (room-made)
 
 pub ruleset make_facts = (next_layer, next_is)
+
+pub ruleset rest_facts = (rests-left)

@@ -185,7 +185,7 @@ same_second a (Typed s g d) e = record {
 
 -- ## Two of one sort
 
-take-add : {X : Type 0} (n m : ℕ) (r : List X) → take (n + m) r ≡ take n r ++ take m (drop n r)
+pub take-add : {X : Type 0} (n m : ℕ) (r : List X) → take (n + m) r ≡ take n r ++ take m (drop n r)
 take-add n m r =
     sym (take-append-drop n (take (n + m) r))
     ∙ (ap (λ z. z ++ drop n (take (n + m) r)) (take-take n (n + m) r (omega arith)) ∙ ap (λ z. take n r ++ z) (drop-take n m r))

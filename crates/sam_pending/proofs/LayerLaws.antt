@@ -49,7 +49,7 @@ last-runes text s t e l =
 
 -- ## What dies
 
-waits-dying : (g : ℕ) (xs : List Run) → waits (dying_runs g xs) ≤ waits xs
+pub waits-dying : (g : ℕ) (xs : List Run) → waits (dying_runs g xs) ≤ waits xs
 waits-dying g [] = omega arith
 waits-dying g (Held n None ∷ xs) = omega (arith, waits-dying g xs)
 waits-dying g (Held n (Some h) ∷ xs) = omega (arith, waits-dying g xs)
@@ -177,7 +177,7 @@ inserts text xs after p n h l m same =
 
 -- ## The host's removal
 
-waits-waiting : (xs : List Run) → waits (waiting_runs xs) ≡ waits xs
+pub waits-waiting : (xs : List Run) → waits (waiting_runs xs) ≡ waits xs
 waits-waiting [] = refl
 waits-waiting (Held n d ∷ xs) = omega (arith, waits-waiting xs)
 waits-waiting (Typed s g d ∷ xs) = omega (arith, waits-waiting xs)
@@ -219,7 +219,7 @@ removes text xs after p q h o l same =
 
 -- ## A group comes to the rasp
 
-waits-sent : (g : ℕ) (xs : List Run) → waits (sent_runs g xs) ≤ waits xs
+pub waits-sent : (g : ℕ) (xs : List Run) → waits (sent_runs g xs) ≤ waits xs
 waits-sent g [] = omega arith
 waits-sent g (x ∷ xs) = omega (arith, waits-append (sent_run g x) (sent_runs g xs), one x, waits-sent g xs)
   where

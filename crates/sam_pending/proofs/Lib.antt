@@ -13,3 +13,5 @@ pub mod UpToLaws
 pub mod PutUpToLaws
 pub mod PlaceLaws
 pub mod LayerLaws
+pub mod BlockLaws
+pub mod WholeLaws

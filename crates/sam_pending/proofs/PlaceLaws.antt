@@ -1,11 +1,11 @@
 -- Places of the text that a request of a group comes to.
-use Rattle.std.proofs.Common.{◌≡◌, refl, sym, ap, ◌∙◌, subst, ℕ, zero, suc, ◌+◌, ◌-◌, ◌≤◌, Bool, true, false, not, cond, nat_le, nat_lt, ◌&&◌, List, [], ◌∷◌, ◌++◌, map, length, take, drop, Option, Some, None, arith, append-nil, length-append, length-drop, length-take-le}
+use Rattle.std.proofs.Common.{◌≡◌, refl, sym, ap, ◌∙◌, ℕ, zero, suc, ◌+◌, ◌-◌, ◌≤◌, Bool, true, false, not, cond, nat_le, nat_lt, ◌&&◌, List, [], ◌∷◌, ◌++◌, map, length, take, drop, Option, Some, None, arith, append-nil, length-append, length-drop, length-take-le}
 use Rattle.std.specs.Prelude.{min}
 use Rattle.std.proofs.lemmas.Bool.Decides.{nat_tests}
 use Rattle.std.specs.List.{filter}
 use Rattle.sam_pending.specs.Cells.{Cell, PartialText, by, drop_by, in_rasp, part_by, place_at, rasp_of, removed, resting, stands_at, take_by, text_at, waiting_of}
 use Rattle.sam_pending.specs.Groups.{RemovalsMovePlaces, place_after_removal}
-use Rattle.sam_pending.specs.Runs.{before_place, cells_of, gone_in, held, held_of, passed, place_in, room, rooms, run_stands, runes_of, size, typed_by, waits, Within}
+use Rattle.sam_pending.specs.Runs.{cells_of, gone_in, held, place_in, rooms, run_stands, runes_of, typed_by, Within}
 use Rattle.sam_pending.specs.Layers.{Layer, IsLayer, IsOver, cells_over}
 use Rattle.sam_pending.specs.declared.run.Run.{Run}
 use Rattle.sam_pending.specs.declared.run.Run.TheVariants.{Held, Typed}

@@ -1,18 +1,19 @@
 //! The next edit by which what waits comes to the rasp.
 
 ghost use Rattle.std.specs.Prelude.{◌≡◌, ◌≤◌, ◌<◌, ◌+◌, ◌^◌, length, IfOk};
-ghost use Rattle.sam_pending.specs.Runs.{rooms, room, waits, reach, above, first_due, first_typed, has_due, has_next, next_deed, edit_at, made_first, without_typed};
+ghost use Rattle.sam_pending.specs.Runs.{rooms, room, reach, above, first_due, first_typed, edit_at, made_first, without_typed};
 
 use crate::run::{Deed, Run};
 use sam_runes::{Edit, Runes};
 use std::alloc::{AllocError, Global};
 
-/// Returns the first run at which such an edit is due, and how many members of the rasp stand before it; `None` if it is due at none.
-pub(crate) fn first_due(runs: &[Run], deed: Deed) -> Option<(Run, u32)>
-    requires { rooms runs.now < 2 ^ 32 }
-    ensures { result ≡ first_due deed 0 runs.now }
+/// Returns the first run at which such an edit is due, and how many members of the rasp stand before it, where `start` stand before the
+/// runs; `None` if it is due at none.
+pub(crate) fn first_due(runs: &[Run], deed: Deed, start: u32) -> Option<(Run, u32)>
+    requires { start + rooms runs.now < 2 ^ 32 }
+    ensures { result ≡ first_due deed start runs.now }
 {
-    let mut at = 0;
+    let mut at = start;
     for run in runs {
         if run.is_due(deed) {
             return Some((*run, at));
@@ -20,55 +21,6 @@ pub(crate) fn first_due(runs: &[Run], deed: Deed) -> Option<(Run, u32)>
         at += run.room();
     }
     None
-}
-
-/// Returns whether such an edit is due at some run.
-pub(crate) fn has_due(runs: &[Run], deed: Deed) -> bool
-    ensures { result ≡ has_due deed runs.now }
-{
-    for run in runs {
-        if run.is_due(deed) {
-            return true;
-        }
-    }
-    false
-}
-
-/// Returns what the next edit of the groups up to a limit does: it inserts only if nothing is to be removed.
-pub(crate) fn next_deed(runs: &[Run], up_to: Option<u32>) -> Deed
-    ensures { result ≡ next_deed up_to runs.now }
-{
-    if has_due(runs, Deed::Removes(up_to)) {
-        Deed::Removes(up_to)
-    } else {
-        Deed::Inserts(up_to)
-    }
-}
-
-/// Returns whether an edit of the groups up to a limit is due.
-pub(crate) fn has_next(runs: &[Run], up_to: Option<u32>) -> bool
-    ensures { result ≡ has_next up_to runs.now }
-{
-    has_due(runs, Deed::Removes(up_to)) || has_due(runs, Deed::Inserts(up_to))
-}
-
-/// Returns how many members of the rasp the runs hold once the edit at the first run is made at which it is due.
-#[tactic(auto, using(crate::proofs::DueLaws::length_facts))]
-pub(crate) fn made_len(runs: &[Run], deed: Deed) -> u32
-    requires { rooms runs.now + waits runs.now < 2 ^ 32 }
-    ensures { result ≡ rooms (made_first deed runs.now) }
-{
-    let mut count = 0;
-    let mut is_made = false;
-    for run in runs {
-        if !is_made && run.is_due(deed) {
-            count += run.made().room();
-            is_made = true;
-        } else {
-            count += run.room();
-        }
-    }
-    count
 }
 
 /// Returns the edit at a run, before which so many members of the rasp stand. The only error is out of memory.
@@ -92,13 +44,14 @@ pub(crate) fn edit_at(alloc: Global, text: &[char], run: Run, at: u32) -> Result
     }
 }
 
-/// Returns the first run whose runes are due, of the groups up to a limit, and how many shown cells stand before it; `None` if none are.
+/// Returns the first run whose runes are due, of the groups up to a limit, and how many shown cells stand before it, where `start` stand
+/// before the runs; `None` if none are.
 #[tactic(auto, using(crate::proofs::DropLaws::above_one))]
-pub(crate) fn first_typed(runs: &[Run], up_to: Option<u32>) -> Option<(Run, u32)>
-    requires { above runs.now < 2 ^ 32 }
-    ensures { result ≡ first_typed up_to 0 runs.now }
+pub(crate) fn first_typed(runs: &[Run], up_to: Option<u32>, start: u32) -> Option<(Run, u32)>
+    requires { start + above runs.now < 2 ^ 32 }
+    ensures { result ≡ first_typed up_to start runs.now }
 {
-    let mut at = 0;
+    let mut at = start;
     for run in runs {
         if run.is_due(Deed::Inserts(up_to)) {
             return Some((*run, at));

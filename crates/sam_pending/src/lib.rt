@@ -2,6 +2,8 @@
 //! `Pending`; the module `laws` says what is true of the cells that its clauses speak of.
 #![tactic(auto)]
 
+mod block;
+mod blocks;
 mod due;
 mod fault;
 pub mod laws;
@@ -10,6 +12,7 @@ mod places;
 mod run;
 mod runs;
 mod told;
+mod wholes;
 
 pub use fault::PendingFault;
 pub use pending::Pending;

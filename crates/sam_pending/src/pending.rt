@@ -1,6 +1,6 @@
 //! `Pending`: edits of one file that wait, over its rasp.
 
-ghost use Rattle.std.specs.Prelude.{◌≡◌, ◌⊎◌, ◌<◌, ◌≤◌, ◌+◌, ◌-◌, ◌++◌, ◌↔◌, IsTrue, ℕ, List, [], ◌∷◌, false, length, take, drop, map, reverse, Some, None, Ok, Err, IfOk, IfSome, OnOk, OnErr, MatchOption, All};
+ghost use Rattle.std.specs.Prelude.{◌≡◌, ◌⊎◌, ◌<◌, ◌≤◌, ◌+◌, ◌-◌, ◌++◌, ◌↔◌, IsTrue, ℕ, List, [], ◌∷◌, false, length, take, drop, map, reverse, Some, None, Ok, Err, IfOk, IfSome, OnOk, OnErr, MatchOption, All, vec_capacity, vec_len};
 ghost use Rattle.sam_runes.specs.Texts.{max_runes};
 ghost use Rattle.sam_pending.specs.Cells.{PartialText, IsMade, all_put, place_at, put, rasp_of, shown_of, shown_place, waiting_of, IsNewest, resting, replaced, inserted, removed, filled, sent};
 ghost use Rattle.sam_pending.specs.Groups.{IsMadeBy, place_after_removal};
@@ -8,10 +8,11 @@ ghost use Rattle.sam_pending.specs.Runs.{rests, has_next, edit_change, removal_c
 ghost use Rattle.sam_pending.specs.Layers.{cells_over, rasp_length, waiting_length, shown_length, newest_group, sent_length, sent_text, shown_members, next_edit, next_made, DropsNext, first_dropped, with_runs, IsLayer, IsOver, IsTidied, AreShort, SaysLeft, most_kept};
 ghost use Rattle.sam_runes.specs.declared.edit.Edit.{Edit};
 
+use crate::block::Block;
 use crate::fault::PendingFault;
 use crate::run::{Run, Stretch};
 use crate::told::{Dropped, Filling, Prepared, Removal, Sent, Shown};
-use crate::{due, places, runs};
+use crate::{blocks, due, places, runs, wholes};
 use sam_runes::{Edit, MAX_RUNES};
 use std::alloc::Global;
 use std::marker::Model;
@@ -38,27 +39,29 @@ const SPARE: usize = 1_024;
 /// let sends = pending.send(1)?; // `!` comes in at place 11 of the rasp
 /// ```
 ///
-/// The cost of each call is linear in the number of runs, which are stretches of cells of one sort, and in the runes that it is given or
-/// hands out. Each change makes at most three runs more, and those that can be one are joined: runes that are typed one after another are
-/// one run. At times the runes that wait are copied, when as many came to the rasp or went since the last time.
+/// Runs, which are stretches of cells of one sort, stand in blocks with sums. `replace`, the next edit and a place of what is shown pass over
+/// blocks, of some hundred runs each, and look into one or two. A change of the host's, a whole group that is sent and places of requests
+/// cost as many steps as there are runs. Each change makes at most three runs more, and those that can be one are joined: runes that are
+/// typed one after another are one run. At times the runes that wait are copied, when as many came to the rasp or went since the last time.
 #[derive(Drop)]
 pub struct Pending {
     /// The runes that wait, and some that wait no more.
     text: Vec<char>,
     /// The cells in order.
-    runs: Vec<Run>,
+    runs: Vec<Block>,
     /// What gives the memory.
     alloc: Global,
 }
 
 impl Model for Pending {
+    ghost use Rattle.sam_pending.specs.Blocks.{flat};
     ghost use Rattle.sam_pending.specs.Layers.{Layer, IsLayer};
 
     ghost Value = { Layer };
 
-    ghost view = { λ s. record { text = s.text.items; runs = s.runs.items } };
+    ghost view = { λ s. record { text = s.text.items; runs = flat s.runs.items } };
 
-    ghost invariant = { λ s. IsLayer (record { text = s.text.items; runs = s.runs.items }) };
+    ghost invariant = { λ s. IsLayer (record { text = s.text.items; runs = flat s.runs.items }) };
 }
 
 impl Pending {
@@ -75,8 +78,7 @@ impl Pending {
         if len > MAX_RUNES {
             return Err(PendingFault::TooLong);
         }
-        let mut runs = Vec::new(alloc);
-        runs.push(Run::Held(len, None))?;
+        let runs = blocks::cut(alloc, &[Run::Held(len, None)])?;
         Ok(Pending {
             text: Vec::new(alloc),
             runs,
@@ -90,7 +92,7 @@ impl Pending {
         ensures len { result ≡ rasp_length self.now }
         ensures limit { result ≤ max_runes }
     {
-        runs::rasp_len(self.runs.as_slice())
+        blocks::rasp_len(self.runs.as_slice())
     }
 
     /// Returns how many members (runes and gaps) are shown.
@@ -99,7 +101,7 @@ impl Pending {
         ensures len { result ≡ shown_length self.now }
         ensures cells { (r : PartialText) → IsOver r self.now → length (shown_of (cells_over r self.now)) ≡ result }
     {
-        runs::shown_len(self.runs.as_slice())
+        blocks::shown_len(self.runs.as_slice())
     }
 
     /// Returns how many runes wait, those that a later group removes among them.
@@ -109,7 +111,7 @@ impl Pending {
         ensures cells { (r : PartialText) → length (waiting_of (cells_over r self.now)) ≡ result }
         ensures limit { result ≤ max_runes }
     {
-        runs::waiting_len(self.runs.as_slice())
+        blocks::waiting_len(self.runs.as_slice())
     }
 
     /// Returns whether nothing waits: then the rasp is shown.
@@ -118,7 +120,7 @@ impl Pending {
         ensures value { result ≡ rests self.now.runs }
         ensures rests { IsTrue result → (r : PartialText) → IsOver r self.now → cells_over r self.now ≡ resting r }
     {
-        runs::rest(self.runs.as_slice())
+        blocks::rest(self.runs.as_slice())
     }
 
     /// Returns the newest group that waits; 0 if none does.
@@ -127,7 +129,7 @@ impl Pending {
         ensures value { result ≡ newest_group self.now }
         ensures cells { (r : PartialText) → All (IsNewest result) (cells_over r self.now) }
     {
-        runs::newest(self.runs.as_slice())
+        blocks::newest(self.runs.as_slice())
     }
 
     /// Puts `runes` in the place of what is shown from place `p` to place `q`, in that group, which is not older than `newest`. They stand
@@ -170,6 +172,7 @@ impl Pending {
     #[tactic(auto, using(crate::proofs::LayerLaws::put_facts))]
     fn put(&mut self, group: u32, p: u32, q: u32, runes: &[char]) -> Result<(), PendingFault>
         requires ascending { p ≤ q }
+        requires there { q ≤ shown_length self.old }
         requires waiting { waiting_length self.old + length runes.now ≤ max_runes }
         ensures ok { OnOk result ((r : PartialText) → IsOver r self.old
             → cells_over r self.new ≡ replaced group p q runes.now (cells_over r self.old)) }
@@ -183,9 +186,9 @@ impl Pending {
             start: self.text.len() as u32,
             count: runes.len() as u32,
         };
-        let after = runs::replaced(self.alloc, self.runs.as_slice(), stretch, group, p, q)?;
-        self.text.extend_from_slice(runes)?;
-        self.runs = after;
+        self.text.reserve(runes.len())?;
+        blocks::replace(self.alloc, &mut self.runs, stretch, group, p, q)?;
+        append(&mut self.text, runes);
         Ok(())
     }
 
@@ -194,11 +197,11 @@ impl Pending {
     fn tidy(&mut self)
         ensures { IsTidied self.old self.new }
     {
-        let waiting = runs::waiting_len(self.runs.as_slice()) as usize;
+        let waiting = blocks::waiting_len(self.runs.as_slice()) as usize;
         if self.text.len() <= 2 * waiting + SPARE {
             return;
         }
-        let made = runs::kept(self.alloc, self.text.as_slice(), self.runs.as_slice());
+        let made = wholes::kept(self.alloc, self.text.as_slice(), self.runs.as_slice());
         if let Ok((text, runs)) = made {
             self.text = text;
             self.runs = runs;
@@ -220,14 +223,14 @@ impl Pending {
         ensures position { (result ≡ Err PendingFault.BadPosition) ↔ (rasp_length self.now < p) }
         ensures long { (result ≡ Err PendingFault.TooLong) ↔ ((p ≤ rasp_length self.now) × (max_runes < rasp_length self.now + count)) }
     {
-        let len = runs::rasp_len(self.runs.as_slice());
+        let len = blocks::rasp_len(self.runs.as_slice());
         if p > len {
             return Err(PendingFault::BadPosition);
         }
         if count > MAX_RUNES - len {
             return Err(PendingFault::TooLong);
         }
-        let (place, runs) = runs::inserted(self.alloc, self.runs.as_slice(), p, count)?;
+        let (place, runs) = wholes::inserted(self.alloc, self.runs.as_slice(), p, count)?;
         Ok((place, Prepared { runs }))
     }
 
@@ -247,10 +250,10 @@ impl Pending {
         ensures position { (result ≡ Err PendingFault.BadPosition) ↔ ((q < p) ⊎ (rasp_length self.now < q)) }
         ensures err { OnErr result ((result ≡ Err PendingFault.BadPosition) ⊎ (result ≡ Err PendingFault.OutOfMemory)) }
     {
-        if p > q || q > runs::rasp_len(self.runs.as_slice()) {
+        if p > q || q > blocks::rasp_len(self.runs.as_slice()) {
             return Err(PendingFault::BadPosition);
         }
-        let (told, runs) = runs::removed(self.alloc, self.runs.as_slice(), p, q)?;
+        let (told, runs) = wholes::removed(self.alloc, self.runs.as_slice(), p, q)?;
         Ok((told, Prepared { runs }))
     }
 
@@ -329,11 +332,11 @@ impl Pending {
         ensures position { (result ≡ Err PendingFault.BadPosition) ↔ (rasp_length self.now < p + count) }
         ensures err { OnErr result ((result ≡ Err PendingFault.BadPosition) ⊎ (result ≡ Err PendingFault.OutOfMemory)) }
     {
-        let len = runs::rasp_len(self.runs.as_slice());
+        let len = blocks::rasp_len(self.runs.as_slice());
         if p > len || count > len - p {
             return Err(PendingFault::BadPosition);
         }
-        let told = runs::loaded(self.alloc, self.runs.as_slice(), p, count)?;
+        let told = wholes::loaded(self.alloc, self.runs.as_slice(), p, count)?;
         Ok(told)
     }
 
@@ -369,7 +372,7 @@ impl Pending {
     fn sent_len(&self, group: u32) -> u32
         ensures { result ≡ sent_length group self.now }
     {
-        runs::sent_len(self.runs.as_slice(), group)
+        wholes::sent_len(self.runs.as_slice(), group)
     }
 
     /// As `send`, where the rasp has room.
@@ -386,14 +389,9 @@ impl Pending {
         ensures err { OnErr result ((self.new ≡ self.old) × (result ≡ Err PendingFault.OutOfMemory)) }
     {
         let text = self.text.as_slice();
-        let insertions = runs::insertions(self.alloc, text, self.runs.as_slice(), group)?;
-        let (removals, left) = runs::sent(self.alloc, self.runs.as_slice(), group)?;
-        let after = runs::joined(self.alloc, left.as_slice())?;
-        self.runs = after;
-        Ok(Sent {
-            removals,
-            insertions,
-        })
+        let (sends, left) = wholes::sent(self.alloc, text, self.runs.as_slice(), group)?;
+        self.runs = left;
+        Ok(sends)
     }
 
     /// Returns whether an edit is left to bring to the rasp, of the groups up to a limit, or of any group. While none is left the rasp is
@@ -404,7 +402,7 @@ impl Pending {
         ensures all { (up_to ≡ None) → (result ≡ false) ↔ IsTrue (rests self.now.runs) }
         ensures cells { (g : ℕ) → up_to ≡ Some g → SaysLeft g self.now result }
     {
-        due::has_next(self.runs.as_slice(), up_to)
+        blocks::has_next(self.runs.as_slice(), up_to)
     }
 
     /// Returns the next edit by which what waits comes to the rasp, of the groups up to a limit, or of any group; `None` if none of them
@@ -422,11 +420,11 @@ impl Pending {
         ensures err { OnErr result ((result ≡ Err PendingFault.TooLong) ⊎ (result ≡ Err PendingFault.OutOfMemory)) }
     {
         let runs = self.runs.as_slice();
-        let deed = due::next_deed(runs, up_to);
-        if due::made_len(runs, deed) > MAX_RUNES {
+        let deed = blocks::next_deed(runs, up_to);
+        if blocks::made_len(runs, deed) > MAX_RUNES {
             return Err(PendingFault::TooLong);
         }
-        let Some((run, at)) = due::first_due(runs, deed) else {
+        let Some((run, at)) = blocks::first_due(runs, deed) else {
             return Ok(None);
         };
         let edit = due::edit_at(self.alloc, self.text.as_slice(), run, at)?;
@@ -444,8 +442,8 @@ impl Pending {
         ensures groups { (g : ℕ) (r : PartialText) (e : Edit) → up_to ≡ Some g → IsOver r self.old → next_edit up_to self.old ≡ Some e
             → IsMadeBy g (cells_over r self.old) (edit_change e) (cells_over (put r (edit_change e)) self.new) }
     {
-        let deed = due::next_deed(self.runs.as_slice(), up_to);
-        due::make_first(&mut self.runs, deed);
+        let deed = blocks::next_deed(self.runs.as_slice(), up_to);
+        blocks::make_first(&mut self.runs, deed);
     }
 
     /// Takes back the runes of the next edit of the groups up to that limit, for which the host left no room in the rasp: they are in no
@@ -461,15 +459,15 @@ impl Pending {
         ensures err { OnErr result ((self.new ≡ self.old) × (result ≡ Err PendingFault.OutOfMemory)) }
     {
         let runs = self.runs.as_slice();
-        let deed = due::next_deed(runs, up_to);
-        if due::made_len(runs, deed) <= MAX_RUNES {
+        let deed = blocks::next_deed(runs, up_to);
+        if blocks::made_len(runs, deed) <= MAX_RUNES {
             return Ok(None);
         }
-        let Some((run, place)) = due::first_typed(runs, up_to) else {
+        let Some((run, place)) = blocks::first_typed(runs, up_to) else {
             unreachable!()
         };
         let edit = due::edit_at(self.alloc, self.text.as_slice(), run, 0)?;
-        let left = due::without_typed(self.alloc, runs, up_to)?;
+        let left = wholes::without_typed(self.alloc, runs, up_to)?;
         self.runs = left;
         Ok(Some(Dropped {
             place,
@@ -486,7 +484,17 @@ impl Pending {
             → (0 < length (shown_members r x))
             × (take (length (shown_members r x)) (drop place (shown_of (cells_over r self.now))) ≡ shown_members r x)) }
     {
-        let (run, at) = runs::shown_run(self.runs.as_slice(), place)?;
+        let (run, at) = blocks::shown_run(self.runs.as_slice(), place)?;
         Some(runs::part_of(self.text.as_slice(), run, at))
+    }
+}
+
+/// Puts the runes at the end of the text, which has room for them.
+fn append(text: &mut Vec<char>, runes: &[char])
+    requires { vec_len text.old + length runes.now ≤ vec_capacity text.old }
+    ensures { text.new.items ≡ text.old.items ++ runes.now }
+{
+    if text.extend_from_slice(runes).is_err() {
+        unreachable!();
     }
 }

@@ -1,21 +1,26 @@
 //! Places of the text that a request of a group comes to.
 
 ghost use Rattle.std.specs.Prelude.{◌≡◌, ◌≤◌, ◌<◌, ◌+◌, ◌-◌, ◌^◌};
+ghost use Rattle.sam_pending.specs.Blocks.{flat};
 ghost use Rattle.sam_pending.specs.Runs.{before_place, gone_in, passed, place_in, room, rooms, size, wait, waits};
 
+use crate::block::Block;
 use crate::run::Run;
 
 /// Returns the place of that text at a place of the rasp.
-#[tactic(auto)]
-pub(crate) fn place_at(runs: &[Run], group: u32, place: u32) -> u32
-    requires { rooms runs.now + waits runs.now < 2 ^ 32 }
-    ensures { result ≡ place_in group place runs.now }
+#[tactic(auto, using(crate::proofs::BlockLaws::place_walk_facts))]
+pub(crate) fn place_at(blocks: &[Block], group: u32, place: u32) -> u32
+    requires { rooms (flat blocks.now) + waits (flat blocks.now) < 2 ^ 32 }
+    ensures { result ≡ place_in group place (flat blocks.now) }
 {
     let mut left = place;
     let mut before = 0;
-    for run in runs {
-        before += before_place(*run, group, left);
-        left = left.saturating_sub(run.room());
+    for block in blocks {
+        let runs = block.runs();
+        for run in runs {
+            before += before_place(*run, group, left);
+            left = left.saturating_sub(run.room());
+        }
     }
     before
 }
@@ -35,21 +40,30 @@ fn before_place(run: Run, group: u32, left: u32) -> u32
 }
 
 /// Returns where a place of that text goes as `count` members of the rasp are removed, from place `p` on.
-#[tactic(auto)]
-pub(crate) fn place_after_removal(runs: &[Run], group: u32, place: u32, p: u32, count: usize) -> u32
-    ensures { result ≡ place - gone_in group p count place runs.now }
+#[tactic(auto, using(crate::proofs::BlockLaws::place_walk_facts))]
+pub(crate) fn place_after_removal(
+    blocks: &[Block],
+    group: u32,
+    place: u32,
+    p: u32,
+    count: usize,
+) -> u32
+    ensures { result ≡ place - gone_in group p count place (flat blocks.now) }
 {
     let mut after = place;
     let mut left = place;
     let mut skipped = p;
     let mut range = count;
-    for run in runs {
-        let passed = passed(*run, group, left);
-        let held = run.held_of(passed).saturating_sub(skipped);
-        after = after.saturating_sub(range.min(held as usize) as u32);
-        left -= passed;
-        range = range.saturating_sub(run.room().saturating_sub(skipped) as usize);
-        skipped = skipped.saturating_sub(run.room());
+    for block in blocks {
+        let runs = block.runs();
+        for run in runs {
+            let passed = passed(*run, group, left);
+            let held = run.held_of(passed).saturating_sub(skipped);
+            after = after.saturating_sub(range.min(held as usize) as u32);
+            left -= passed;
+            range = range.saturating_sub(run.room().saturating_sub(skipped) as usize);
+            skipped = skipped.saturating_sub(run.room());
+        }
     }
     after
 }

@@ -105,18 +105,6 @@ pub(crate) fn shown_len(runs: &[Run]) -> u32
     count
 }
 
-/// Returns whether nothing of the runs waits.
-pub(crate) fn rest(runs: &[Run]) -> bool
-    ensures { result ≡ rests runs.now }
-{
-    for run in runs {
-        if !run.rests() {
-            return false;
-        }
-    }
-    true
-}
-
 /// Returns the newest group of the runs; 0 if none waits.
 pub(crate) fn newest(runs: &[Run]) -> u32
     ensures { result ≡ newest_of runs.now }
@@ -387,14 +375,15 @@ pub(crate) fn kept(
     Ok((kept, after))
 }
 
-/// Returns the rest of the run that stands at that place of what is shown, and where in the rasp it begins; `None` from the end on.
-pub(crate) fn shown_run(runs: &[Run], place: u32) -> Option<(Run, u32)>
+/// Returns the rest of the run that stands at that place of what is shown, and where in the rasp it begins, where the runs begin at place
+/// `start`; `None` from the end on.
+pub(crate) fn shown_run(runs: &[Run], place: u32, start: u32) -> Option<(Run, u32)>
     requires within { Within most_kept runs.now }
-    requires held { rooms runs.now < 2 ^ 32 }
-    ensures { result ≡ spot place 0 runs.now }
+    requires held { start + rooms runs.now < 2 ^ 32 }
+    ensures { result ≡ spot place start runs.now }
 {
     let mut left = place;
-    let mut at = 0;
+    let mut at = start;
     for run in runs {
         if run.counts(Side::Above) {
             if left < run.size() {

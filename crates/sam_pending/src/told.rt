@@ -1,6 +1,6 @@
 //! What calls of `Pending` tell their caller.
 
-use crate::run::Run;
+use crate::block::Block;
 use sam_runes::{Edit, Runes};
 use std::marker::Model;
 
@@ -9,16 +9,17 @@ use std::marker::Model;
 #[derive(Drop)]
 pub struct Prepared {
     /// The cells in order, as they will be.
-    pub(crate) runs: Vec<Run>,
+    pub(crate) runs: Vec<Block>,
 }
 
 impl Model for Prepared {
     ghost use Rattle.std.specs.Prelude.{List};
+    ghost use Rattle.sam_pending.specs.Blocks.{flat};
     ghost use Rattle.sam_pending.specs.declared.run.Run.{Run};
 
     ghost Value = { List Run };
 
-    ghost view = { λ s. s.runs.items };
+    ghost view = { λ s. flat s.runs.items };
 }
 
 /// A removal: what stands from place `p` to place `q` goes.

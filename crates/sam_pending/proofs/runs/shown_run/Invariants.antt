@@ -5,6 +5,6 @@ use Rattle.sam_pending.proofs.runs.shown_run.Given as goal
 
 abbrev pub invariant-loop-run : goal.invariant-loop-run
 invariant-loop-run l =
-    (spot l.left l.at (drop l.run-index l.runs) ≡ spot l.place 0 l.runs)
-    × (l.at + rooms (drop l.run-index l.runs) ≡ rooms l.runs)
+    (spot l.left l.at (drop l.run-index l.runs) ≡ spot l.place l.start l.runs)
+    × (l.at + rooms (drop l.run-index l.runs) ≡ l.start + rooms l.runs)
     × Within most_kept (drop l.run-index l.runs)

@@ -1,26 +1,27 @@
 use Rattle.std.proofs.Common.{◌≡◌, ap, arith}
+use Rattle.sam_pending.specs.Blocks.{flat}
 use Rattle.sam_pending.specs.Layers.{sent_length}
 use Rattle.sam_pending.specs.Runs.{rooms, sent_runs}
 use Rattle.sam_pending.proofs.LayerLaws.{Sends, sends}
 use Rattle.sam_pending.proofs.pending.Pending.bring.Goals as goal
 
-done : (c : goal.After-drop-left-2) → Sends c.self.inside.text.items c.self.inside.runs.items c.in_ok-after.after.items c.in_ok-insertions.insertions.items c.args.group
+done : (c : goal.After-drop-self-inside) → Sends c.self.inside.text.items (flat c.self.inside.runs.items) (flat c.in_ok-sends.left.items) c.in_ok-sends.sends.insertions.items c.args.group
 done c =
-    let xs = c.self.inside.runs.items in
+    let xs = flat c.self.inside.runs.items in
     let g = c.args.group in
     let fits : rooms (sent_runs g xs) ≡ sent_length g c.args.self.now = ap (sent_length g) c.self.view_is in
-    sends c.self.inside.text.items xs c.in_ok-after.after.items c.in_ok-insertions.insertions.items g c.self.invariant (omega (arith, fits, c.requires))
-    (rw (← c.as_slice-2.ensures.value, ← c.in_ok-removals.ensures.1, ← c.as_slice-3.ensures.value) c.in_ok-after.ensures)
-    (rw (← c.as_slice.ensures.value, ← c.as_slice-text.ensures.value) c.in_ok-insertions.ensures.made)
+    sends c.self.inside.text.items xs (flat c.in_ok-sends.left.items) c.in_ok-sends.sends.insertions.items g c.self.invariant (omega (arith, fits, c.requires))
+    (rw (← c.as_slice.ensures.value) c.in_ok-sends.ensures.runs)
+    (rw (← c.as_slice.ensures.value, ← c.as_slice-text.ensures.value) c.in_ok-sends.ensures.made)
 
 pub invariant_of-self : goal.invariant_of-self
 invariant_of-self c = (done c).layer
 
 pub returns-clause-rasp : goal.returns-clause-rasp
-returns-clause-rasp c = rw (← c.self.view_is, c.in_ok-removals.ensures.0, c.as_slice-2.ensures.value) (done c).rasp
+returns-clause-rasp c = rw (← c.self.view_is, c.in_ok-sends.ensures.removals, c.as_slice.ensures.value) (done c).rasp
 
 pub returns-clause-cells : goal.returns-clause-cells
-returns-clause-cells c = rw (← c.self.view_is, c.in_ok-removals.ensures.0, c.as_slice-2.ensures.value) (done c).cells
+returns-clause-cells c = rw (← c.self.view_is, c.in_ok-sends.ensures.removals, c.as_slice.ensures.value) (done c).cells
 
 pub returns-clause-over : goal.returns-clause-over
-returns-clause-over c = rw (← c.self.view_is, c.in_ok-removals.ensures.0, c.as_slice-2.ensures.value) (done c).over
+returns-clause-over c = rw (← c.self.view_is, c.in_ok-sends.ensures.removals, c.as_slice.ensures.value) (done c).over

@@ -1,4 +1,5 @@
 use Rattle.std.proofs.Common.{arith, ◌≡◌, ◌<◌, ◌∙◌, refl, ap, sym, length, List, Some}
+use Rattle.sam_pending.specs.Blocks.{flat}
 use Rattle.sam_pending.specs.Layers.{Layer}
 use Rattle.sam_pending.specs.Runs.{first_typed, made_first, next_deed, rooms}
 use Rattle.sam_pending.specs.declared.run.Run.{Run}
@@ -8,28 +9,28 @@ use Rattle.sam_pending.proofs.pending.Pending.drop_next.Goals as goal
 
 pub first_typed-requires : goal.first_typed-requires
 first_typed-requires c =
-    rw c.as_slice-runs.ensures.value (omega (arith, above-most c.self.inside.runs.items, c.self.invariant.rasp, c.self.invariant.waiting))
+    rw c.as_slice-runs.ensures.value (omega (arith, above-most (flat c.self.inside.runs.items), c.self.invariant.rasp, c.self.invariant.waiting))
 
 pub edit_at-requires-clause-within : goal.edit_at-requires-clause-within
 edit_at-requires-clause-within c =
     rw c.as_slice.ensures.value
-    (typed_reach c.args.up_to c.self.inside.runs.items (length c.self.inside.text.items) 0 c.in-Some.run' c.in-Some.place c.self.invariant.within
-    (ap (first_typed c.args.up_to 0) (sym c.as_slice-runs.ensures.value) ∙ (sym c.first_typed.ensures ∙ c.in-Some.is)))
+    (typed_reach c.args.up_to (flat c.self.inside.runs.items) (length c.self.inside.text.items) 0 c.in-Some.run' c.in-Some.place c.self.invariant.within
+    (ap (λ z. first_typed c.args.up_to 0 (flat z)) (sym c.as_slice-runs.ensures.value) ∙ (sym c.first_typed.ensures ∙ c.in-Some.is)))
 
 pub invariant_of-self : goal.invariant_of-self
 invariant_of-self c =
-    let l : Layer = record { text = c.self.inside.text.items; runs = c.self.inside.runs.items } in
+    let l : Layer = record { text = c.self.inside.text.items; runs = (flat c.self.inside.runs.items) } in
     rw (c.in_ok-left.ensures, c.as_slice-runs.ensures.value) (dropped_layer c.args.up_to l c.self.invariant)
 
 pub returns-clause-dropped : goal.returns-clause-dropped
 returns-clause-dropped c =
-    let l : Layer = record { text = c.self.inside.text.items; runs = c.self.inside.runs.items } in
-    let xs : List Run = c.self.inside.runs.items in
+    let l : Layer = record { text = c.self.inside.text.items; runs = (flat c.self.inside.runs.items) } in
+    let xs : List Run = flat c.self.inside.runs.items in
     let runs = c.as_slice-runs.ensures.value in
-    let found : first_typed c.args.up_to 0 xs ≡ Some (c.in-Some.run', c.in-Some.place) = ap (first_typed c.args.up_to 0) (sym runs) ∙ (sym c.first_typed.ensures ∙ c.in-Some.is) in
-    let deed : c.next_deed-deed.result ≡ next_deed c.args.up_to xs = c.next_deed-deed.ensures ∙ ap (next_deed c.args.up_to) runs in
+    let found : first_typed c.args.up_to 0 xs ≡ Some (c.in-Some.run', c.in-Some.place) = ap (λ z. first_typed c.args.up_to 0 (flat z)) (sym runs) ∙ (sym c.first_typed.ensures ∙ c.in-Some.is) in
+    let deed : c.next_deed-deed.result ≡ next_deed c.args.up_to xs = c.next_deed-deed.ensures ∙ ap (λ z. next_deed c.args.up_to (flat z)) runs in
     let made : c.made_len.result ≡ rooms (made_first (next_deed c.args.up_to xs) xs) =
-    c.made_len.ensures ∙ (ap (λ w. rooms (made_first w c.as_slice-runs.result.now)) deed ∙ ap (λ (ys : List Run). rooms (made_first (next_deed c.args.up_to xs) ys)) runs) in
+    c.made_len.ensures ∙ (ap (λ w. rooms (made_first w (flat c.as_slice-runs.result.now))) deed ∙ ap (λ (ys : List (List Run)). rooms (made_first (next_deed c.args.up_to xs) (flat ys))) runs) in
     let more : rooms xs < rooms (made_first (next_deed c.args.up_to xs) xs) = omega (arith, made, c.if-made_len-le-MAX_RUNES.false, c.self.invariant.rasp) in
     rw (← c.self.view_is, c.in_ok-left.ensures, runs) (
       refl,

@@ -1,0 +1,10 @@
+use Rattle.std.proofs.Common.{◌≡◌, ◌≤◌, ◌-◌, length, take}
+use Rattle.sam_pending.specs.Blocks.{flat}
+use Rattle.sam_pending.specs.Runs.{above}
+use Rattle.sam_pending.proofs.blocks.needed.Given as goal
+
+abbrev pub invariant-loop-count : goal.invariant-loop-count
+invariant-loop-count l = (l.count ≤ length l.blocks) × (l.reach ≡ above (flat (take l.count l.blocks)))
+
+abbrev pub decreases-loop-count : goal.decreases-loop-count
+decreases-loop-count l = length l.blocks - l.count

@@ -1,0 +1,17 @@
+use Rattle.std.proofs.Common.{◌≡◌, ◌+◌, drop, arith}
+use Rattle.sam_pending.specs.Blocks.{flat}
+use Rattle.sam_pending.specs.Runs.{rooms}
+use Rattle.sam_pending.proofs.BlockLaws.{rooms-on}
+use Rattle.sam_pending.proofs.blocks.rasp_len.Goals as goal
+
+pub overflow_add-count : goal.overflow_add-count
+overflow_add-count c =
+    omega (arith, c.requires, c.loop-block.invariant, c.rasp_len-count.ensures, rooms-on c.args.blocks.now c.loop-block.block-index c.block-item.result c.loop-block-test.true c.block-item.is)
+
+pub loop-block-preserved : goal.loop-block-preserved
+loop-block-preserved c =
+    let bs = c.args.blocks.now in
+    let i = c.loop-block.block-index in
+    let e : c.loop-block.count + c.rasp_len-count.result + rooms (flat (drop (i + 1) bs)) ≡ rooms (flat bs) =
+    omega (arith, c.loop-block.invariant, c.rasp_len-count.ensures, rooms-on bs i c.block-item.result c.loop-block-test.true c.block-item.is) in
+    e
