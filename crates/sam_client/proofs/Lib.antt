@@ -3,3 +3,4 @@ pub mod Moves
 pub mod DeliveryLaws
 pub mod GoingLaws
 pub mod BatchLaws
+pub mod NoteLaws

@@ -1,16 +1,16 @@
 //! How a client goes on: what moves between its parts, one thing after another.
 
-ghost use Rattle.std.specs.Prelude.{◌≡◌, ℕ, ◌^◌, ◌<◌, ◌≤◌, []};
+ghost use Rattle.std.specs.Prelude.{◌≡◌, ◌↔◌, IsTrue, length, ℕ, ◌^◌, ◌<◌, ◌≤◌, []};
 ghost use Rattle.sam_endpoint.specs.TermStepping.{IsReady};
 ghost use Rattle.sam_client.specs.Clients.{Does, HasReceived, fetched};
 ghost use Rattle.sam_client.specs.Clients.Act.{ActNext, AskHost, Bring, Fetch, FetchNote, PutEdit, Send, SendNote, Step, TellRefusal};
 ghost use Rattle.sam_client.specs.Going.{EditIdle, EditsIdle, EndIdle, GoesOn, IfIdle, InIdle, IsNextTag, IsPut, OutIdle, RequestsIdle, Rests, most_moves, step_event};
-ghost use Rattle.sam_client.specs.Notes.{PutsNote, SendsAll, note_fault};
+ghost use Rattle.sam_client.specs.Notes.{HasActed, PutsNote, SendsAll, SendsWithNote, WritesActed, note_fault};
 
 use crate::client::Client;
 use crate::event::Event;
 use crate::fault::GoOnFault;
-use sam_endpoint::{BringFault, EndpointFault, TermStep, TermStop};
+use sam_endpoint::{BringFault, EndpointFault, TermEndpoint, TermStep, TermStop};
 use sam_link::{MOST_BODY, NoteFault, PutFault as SendFault};
 use sam_overlay::{OverlayStep, Put, PutFault, Turn};
 use sam_runes::ALL_TAGS;
@@ -29,6 +29,20 @@ fn told_of_step(step: OverlayStep) -> Event
         TermStep::Refused { .. } => Event::Busy,
         TermStep::Received { .. } => Event::Stepped(step),
         TermStep::Acted { .. } => Event::Stepped(step),
+    }
+}
+
+/// Returns whether messages of what acted last are left over to be written.
+#[tactic(auto, using(crate::proofs::NoteLaws::left_over))]
+fn has_acted(end: &TermEndpoint) -> bool
+    ensures { IsTrue result ↔ HasActed end.now }
+{
+    match end.stopped() {
+        Some(_) => false,
+        None => match end.first_frame() {
+            Some(_) => false,
+            None => !end.is_idle(),
+        },
     }
 }
 
@@ -269,8 +283,9 @@ impl Client {
     }
 
     /// Goes on until there is something to tell: bytes of the host go from the line to the terminal's end, its steps are made, requests act
-    /// and edits of free files are put in their one order, and what the end composed goes into the line. Call it after each call that brought something, until it answers
-    /// `Idle`. It makes `MOST_MOVES` moves at most that do something, and answers `Busy` just if it made so many and nothing is to be told.
+    /// and edits of free files are put in their one order, and what the end composed goes into the line. Call it after each call that
+    /// brought something, until it answers `Idle`. It makes `MOST_MOVES` moves at most that do something, and answers `Busy` just if it made
+    /// so many and nothing is to be told.
     ///
     /// Errors: `Stopped` if the terminal's end has stopped; `CountFull` if a count of bytes or events would pass 2^64-1; `OutOfMemory`.
     /// Nothing is lost by them: the next call goes on.
@@ -299,17 +314,42 @@ impl Client {
         self.send(now)
     }
 
-    /// Puts a note for the host's program, behind all that was composed. Errors, in this order: `TooLong` for more than 4,096 bytes, after
-    /// which all is as before; `CountFull`, `OutOfMemory`, after which the note is not put.
+    /// Has the terminal's end write the messages of what acted last, if these are left over.
+    #[tactic(auto, using(crate::proofs::NoteLaws::step_writes, crate::proofs::NoteLaws::step_fails))]
+    fn write_acted(&mut self) -> Result<(), EndpointFault<TermStop>>
+        ensures { WritesActed self.old result self.new }
+    {
+        if !has_acted(self.overlay().end()) {
+            return Ok(());
+        }
+        match self.step() {
+            Ok(_) => Ok(()),
+            Err(why) => Err(why),
+        }
+    }
+
+    /// Puts all that was written into the line, and a note behind it.
+    fn send_with_note(&mut self, bytes: &[u8], now: u64) -> Result<(), NoteFault>
+        requires { length bytes.now ≤ 4096 }
+        ensures { SendsWithNote self.old bytes.now now result self.new }
+    {
+        match self.send_all(now) {
+            Ok(()) => self.send_note(bytes, now),
+            Err(why) => Err(note_fault(why)),
+        }
+    }
+
+    /// Puts a note for the host's program, behind all that acted. Errors, in this order: `TooLong` for more than 4,096 bytes, after which
+    /// all is as before; `CountFull`, `OutOfMemory`, after which the note is not put.
     pub fn put_note(&mut self, bytes: &[u8], now: u64) -> Result<(), NoteFault>
         ensures { PutsNote self.old bytes.now now result self.new }
     {
         if bytes.len() > MOST_BODY {
             return Err(NoteFault::TooLong);
         }
-        match self.send_all(now) {
-            Ok(()) => self.send_note(bytes, now),
-            Err(why) => Err(note_fault(why)),
+        match self.write_acted() {
+            Ok(()) => self.send_with_note(bytes, now),
+            Err(_) => Err(NoteFault::OutOfMemory),
         }
     }
 }
