@@ -111,14 +111,14 @@ enum sam_status {
     SAM_OK = 0,         /* the call did its work */
     SAM_NO_MEMORY = 1,  /* the input of the call was not taken: make the call again */
     SAM_UNFINISHED = 2, /* the input of the call was taken, and some of it waits: feed no bytes to go on */
-    SAM_COUNT_FULL = 3, /* a stream of 2^64 bytes, or 2^64 events or connections; the input was not taken */
+    SAM_COUNT_FULL = 3, /* a stream of 2^64 bytes, 2^64 events or connections, or 2^32 tasks; the input was not taken */
     SAM_NO_HANDLE = 4,  /* the handle is NULL, or empty: not made yet, or freed */
     SAM_MADE = 5,       /* the handle is made already */
     SAM_NOT_TEXT = 6,   /* the bytes are not UTF-8 */
     SAM_NONE = 7,       /* there is no such file, or nothing more to hand out */
     SAM_WAITING = 8,    /* earlier work waits, and the input was not taken: step, or take the splices that are left, then call again */
     SAM_NO_ROOM = 9,    /* the buffer has less room than what is handed out may need, and nothing was done */
-    SAM_TOO_MANY = 10,  /* 1,000 requests of a client wait, and this one was not taken: go on, and ask again */
+    SAM_TOO_MANY = 10,  /* 1,000 requests of a client wait, or 1,000 tasks are open, and this one was not taken: go on, and ask again */
 
     SAM_ADD = 16, /* sam_host_add_file refused a file, and the host is as it was */
     /* SAM_ADD + 1 was SAM_ADD_BEGUN, of a host that was fed already: it is not given again */
@@ -371,9 +371,10 @@ struct sam_did {
     uint32_t start; /* the change: from this place on, `gone` runes or gaps of the old text gave way to `came` of the new one */
     uint32_t gone;
     uint32_t came;
-    uint16_t tag; /* the file */
-    uint8_t kind; /* the kind of the message or frame: enum sam_kind */
-    bool loads;   /* whether the frame loads runes in the place of gaps (Hdata): more of the text is known, and nothing changed */
+    uint32_t task; /* the task's number, as sam_client_begin or sam_client_write handed it out; 0 if this is the end of none */
+    uint16_t tag;  /* the file */
+    uint8_t kind;  /* the kind of the message or frame: enum sam_kind */
+    bool loads;    /* whether the frame loads runes in the place of gaps (Hdata): more of the text is known, and nothing changed */
 };
 typedef struct sam_did sam_did;
 
@@ -1490,28 +1491,33 @@ SAM_MUST_USE sam_status sam_line_words(sam_line *line, uint8_t *into, size_t roo
  *     sam_client_connected(&client, now, &attempt)      it is open; or sam_client_not_connected, if it can't be made
  *     sam_client_receive(&client, attempt, .., now)     all bytes that came on it; sam_client_broken: it has ended
  *     sam_client_replace(&client, tag, ..)              the user typed: it is shown from now on, whatever is locked or broken
- *     sam_client_ask(&client, &event, ..)               the user asked for something else: a file, a write, a search, a command line
+ *     sam_client_ask(&client, &event, ..)               the user asked for something else: a search, a command line
+ *     sam_client_begin(&client, SAM_NOTE_OPEN, ..)      the host's program is asked for something: a file by its path, say
+ *     sam_client_write(&client, tag, &task)             a file is to be written as it is shown now
+ *     sam_client_see(&client, tag, start, end)          a window shows this much of a file: that is loaded first, and the rest by and by
  *     sam_client_next_event(&client, now, &kind, &did)  after any of these, until SAM_CLIENT_IDLE
  *     sam_client_next_splice(&client, &splice)          at SAM_CLIENT_STEPPED: each goes into the editor's own text, until SAM_NONE
- *     sam_client_note(&client, ..)                      at SAM_CLIENT_NOTE: a message of the host's program
+ *     sam_client_note(&client, ..)                      at SAM_CLIENT_NOTE and SAM_CLIENT_ANSWERED: a message of the host's program
  *     sam_client_take_out(&client, attempt, ..)         bytes for the connection, until it hands out 0
- *     sam_client_expect(&client, waits, now)            whether it waits for the host, as while sam_client_has_all is false
  *     sam_client_due_in(&client, now, &left)            the program may sleep so long, or until bytes or keys come
  *
  * The editor's own text is the shown text, if it takes each splice before it tells of an edit. Places count runes and gaps of the shown
  * text; a replacement makes no splice. A connection that breaks takes nothing of what the user did: it goes to the host over the next one.
- * Before it leaves, a program looks at sam_client_has_all. `now` is the time, as for a line: milliseconds of any clock that doesn't jump.
- * The structs and the numbers are those of an overlay (sam_splice, sam_event), of a terminal (sam_did, sam_state, sam_file) and of a line
- * (enum sam_tick, sam_line_details). docs/howto/EMBEDDING.md has the loop. Of these calls sam_client_new, _receive, _acknowledge,
- * _next_event, _step_edits, _put_note, _replace, _replace_each, _ask and _drop_next take memory, the others none. */
+ * What the client itself waits for it knows, so only a program that puts notes of its own needs sam_client_expect. Before it leaves, a
+ * program looks at sam_client_has_all. `now` is the time, as for a line: milliseconds of any clock that doesn't jump. The structs and the
+ * numbers are those of an overlay (sam_splice, sam_event), of a terminal (sam_did, sam_state, sam_file) and of a line (enum sam_tick,
+ * sam_line_details). docs/howto/EMBEDDING.md has the loop. Of these calls sam_client_new, _receive, _acknowledge, _next_event, _step_edits,
+ * _put_note, _replace, _replace_each, _ask, _drop_next, _begin, _write and _see take memory, the others none. */
 
 /* What a client tells as it goes on. */
 enum sam_client_event {
-    SAM_CLIENT_IDLE = 0,    /* nothing moves until the host or the user does something, or the time comes */
-    SAM_CLIENT_BUSY = 1,    /* 1,000 things moved that are not told, and more may: call again */
-    SAM_CLIENT_STEPPED = 2, /* a frame was received or an event acted, as sam_did says; the splices are to be taken */
-    SAM_CLIENT_REFUSED = 3, /* a request, or an edit, was refused: sam_did has its number and why */
-    SAM_CLIENT_NOTE = 4,    /* a note came: sam_client_note copies it; all frames before it are received */
+    SAM_CLIENT_IDLE = 0,       /* nothing moves until the host or the user does something, or the time comes */
+    SAM_CLIENT_BUSY = 1,       /* 1,000 things moved that are not told, and more may: call again */
+    SAM_CLIENT_STEPPED = 2,    /* a frame was received or an event acted, as sam_did says; the splices are to be taken */
+    SAM_CLIENT_REFUSED = 3,    /* a request, or an edit, was refused: sam_did has its number and why */
+    SAM_CLIENT_NOTE = 4,       /* a note came: sam_client_note copies it; all frames before it are received */
+    SAM_CLIENT_ANSWERED = 5,   /* a note came, which sam_client_note copies: it answers the task that sam_did has */
+    SAM_CLIENT_UNANSWERED = 6, /* the session is over, and no answer comes to the task that sam_did has */
 
     SAM_CLIENT_WIDTH = 0x7FFFFFFF /* never handed out: it keeps the type at 32 bits under any compiler's options */
 };
@@ -1554,8 +1560,8 @@ sam_status sam_client_free(sam_client *client);
  * out something else, so call it until it hands out SAM_TICK_NOTHING. At SAM_TICK_ASK go on (sam_client_next_event): that asks the host. */
 SAM_MUST_USE sam_status sam_client_tick(sam_client *client, uint64_t now, uint32_t *tick);
 
-/* Hands out the number of milliseconds until sam_client_tick has something to say, if no other call comes before. Returns SAM_NONE if it
- * never has. */
+/* Hands out the number of milliseconds until sam_client_tick or sam_client_next_event has something to do, if no other call comes before.
+ * Returns SAM_NONE if neither ever has. */
 SAM_MUST_USE sam_status sam_client_due_in(sam_client *client, uint64_t now, uint64_t *left);
 
 /* Takes a connection that the program has opened: the connection before is over. Hands out its number, counted from 1, which names it in
@@ -1574,8 +1580,8 @@ SAM_MUST_USE sam_status sam_client_broken(sam_client *client, uint64_t attempt, 
  * asked. */
 SAM_MUST_USE sam_status sam_client_address_changed(sam_client *client, uint64_t now);
 
-/* Notes whether the program waits for an answer of the host's program, as to a note of its own: a host that doesn't answer is found out
- * then, as by sam_line_expect. */
+/* Notes whether the program waits for an answer to a note of its own: a host that doesn't answer is found out then, as by sam_line_expect.
+ * While a task is open, an event is held or something is locked, the client waits in any case. */
 SAM_MUST_USE sam_status sam_client_expect(sam_client *client, bool expects, uint64_t now);
 
 /* Takes bytes that came on a connection, from its first one on, in pieces of any length, all or none. Then go on. Its refusals are those of
@@ -1596,12 +1602,14 @@ SAM_MUST_USE sam_status sam_client_acknowledge(sam_client *client);
 /* Goes on until there is something to tell, and hands out what (enum sam_client_event). Bytes of the host are received, requests and edits
  * that wait act once they can, and all that is composed goes into the line. Call it after each call that brought something, until it hands
  * out SAM_CLIENT_IDLE, and take all splices before each call. `did` is as sam_overlay_step hands it out at SAM_CLIENT_STEPPED, and has
- * `event`, `request` and `why` alone at SAM_CLIENT_REFUSED: which event it was, counted from 1 over all events that acted or were refused,
- * edits that were put among them, and SAM_REFUSAL... If a request acted or was refused, `request` is its number, as sam_client_ask handed
- * it out: each is told once, in their order, over all connections. Else the fields are 0. Refused, in this order, and nothing is handed
- * out then: SAM_WAITING if splices are left, and all is as it was. Else some of what waited may be done, and nothing is lost: why the
- * terminal has stopped, at this call or before, SAM_STREAM.. or SAM_TERM_REFUSED..; SAM_COUNT_FULL; SAM_UNFINISHED if memory is short:
- * call it again later. */
+ * `event`, `request`, `task` and `why` alone at SAM_CLIENT_REFUSED: which event it was, counted from 1 over all events that acted or were
+ * refused, edits that were put among them, and SAM_REFUSAL... If a request acted or was refused, `request` is its number, as sam_client_ask
+ * handed it out: each is told once, in their order, over all connections. Requests by which the client loads a text by itself have numbers,
+ * too, and are not told where they are refused. `task` is the task's number at SAM_CLIENT_ANSWERED, at SAM_CLIENT_UNANSWERED, and where the
+ * write of sam_client_write is refused: each task ends once, by one of these. Else the fields are 0. Where nothing else moves, it asks for
+ * what is to be loaded next (sam_client_see). Refused, in this order, and nothing is handed out then: SAM_WAITING if splices are left, and
+ * all is as it was. Else some of what waited may be done, and nothing is lost: why the terminal has stopped, at this call or before,
+ * SAM_STREAM.. or SAM_TERM_REFUSED..; SAM_COUNT_FULL; SAM_UNFINISHED if memory is short: call it again later. */
 SAM_MUST_USE sam_status sam_client_next_event(sam_client *client, uint64_t now, sam_client_event *kind, sam_did *did);
 
 /* Goes on as sam_client_next_event does, and over each step that is an edit: of the host's (Hgrowdata, Hcut), of runes that are loaded
@@ -1616,14 +1624,13 @@ SAM_MUST_USE sam_status sam_client_step_edits(sam_client *client, uint64_t now, 
 /* Hands out the next change of the shown text by the last step. Returns SAM_NONE if none is left. */
 SAM_MUST_USE sam_status sam_client_next_splice(sam_client *client, sam_splice *splice);
 
-/* Copies the note that was told last (SAM_CLIENT_NOTE), and hands out its length in bytes, which may be 0. It stays until the next one is
- * told. Before the first it has 0 bytes. Refused: SAM_NO_ROOM if the buffer has less room than the note; a room of 4,096 bytes is always
- * enough. */
+/* Copies the note that was told last (SAM_CLIENT_NOTE, SAM_CLIENT_ANSWERED), and hands out its length in bytes, which may be 0. It stays
+ * until the next one is told. Before the first it has 0 bytes. Refused: SAM_NO_ROOM if the buffer has less room than the note; a room of
+ * 4,096 bytes is always enough. */
 SAM_MUST_USE sam_status sam_client_note(sam_client *client, uint8_t *into, size_t room, size_t *len);
 
-/* Puts a note for the host's program, behind all that was composed. So it comes out behind the edits and events that have acted, and
- * before those that wait. Refused, in this order, and the note is not put then: SAM_LINK_TOO_LONG for more than 4,096 bytes;
- * SAM_COUNT_FULL; SAM_NO_MEMORY. */
+/* Puts a note for the host's program. It comes out behind the edits and events that have acted, and before those that wait. Refused, in
+ * this order, and the note is not put then: SAM_LINK_TOO_LONG for more than 4,096 bytes; SAM_COUNT_FULL; SAM_NO_MEMORY. */
 SAM_MUST_USE sam_status sam_client_put_note(sam_client *client, const uint8_t *bytes, size_t len, uint64_t now);
 
 /* ---- A client: what the user does ---- */
@@ -1659,6 +1666,39 @@ SAM_MUST_USE sam_status sam_client_ask(sam_client *client, const sam_event *even
  * and hands out the number of bytes, and the splice by which they went of the shown text, as sam_overlay_drop_next does, with its
  * refusals. */
 SAM_MUST_USE sam_status sam_client_drop_next(sam_client *client, uint16_t tag, sam_splice *splice, uint8_t *into, size_t room, size_t *len);
+
+/* ---- A client: what the host's program is to do ---- */
+
+/* Has the host's program do something, and hands out the number of the task, counted from 1 over all tasks. The kind is SAM_NOTE_OPEN, to
+ * join the file or the folder at a path; SAM_NOTE_COMPLETE, to tell the names that complete a path; or SAM_NOTE_RELOAD, to read the file of
+ * a tag anew from its disk. The message goes behind all that acted, as a note does, and has the number as its request.
+ * sam_client_next_event tells once that the answer came (SAM_CLIENT_ANSWERED), with that number: sam_client_note copies it. Refused, in
+ * this order, and no task is begun then: SAM_NOTE_BAD_KIND for another kind; SAM_TOO_MANY if 1,000 tasks are open; SAM_COUNT_FULL after
+ * 2^32-1 tasks; SAM_NO_MEMORY if there is no room for the task; SAM_NOTE_BAD_FIELD if the kind has no tag and the tag is not 0, or no path
+ * and the path is not empty; SAM_NOTE_BAD_LENGTH if the message would have more than 4,096 bytes; SAM_NOTE_BAD_PATH if a byte of the path
+ * is 0; SAM_COUNT_FULL, SAM_NO_MEMORY of the line. */
+SAM_MUST_USE sam_status sam_client_begin(sam_client *client, uint32_t kind, uint16_t tag, const uint8_t *path, size_t len, uint64_t now,
+                                         uint32_t *task);
+
+/* Asks for a file to be written as it is shown now, as SAM_EVENT_WRITE does by sam_client_ask, and hands out the number of the task. Its
+ * answer is SAM_NOTE_SAVED or SAM_NOTE_NOT_SAVED; if the write is refused, no answer comes, and `task` of sam_did has its number at
+ * SAM_CLIENT_REFUSED. A write that would find the same text as one that waits is that task. Refused, in this order, and no task is begun
+ * then: SAM_TOO_MANY if 1,000 tasks are open; SAM_COUNT_FULL after 2^32-1 tasks; SAM_NO_MEMORY if there is no room for the task; then as
+ * sam_client_ask refuses a write, in its order: SAM_COUNT_FULL, SAM_WAITING, SAM_TOO_MANY, SAM_COUNT_FULL, SAM_NO_MEMORY. */
+SAM_MUST_USE sam_status sam_client_write(sam_client *client, uint16_t tag, uint32_t *task);
+
+/* Notes what a window shows of a file, from the place `start` to the place `end`, in the place of what it showed before. While nothing else
+ * waits, the client loads that by itself, then what is behind it and the rest of the file, in slices, but these only once nobody has
+ * pressed a key for a second (sam_client_rest). Of several files, the one that was told last is first. Any tag and any place may be told,
+ * also before the file is open. Refused: SAM_NO_MEMORY, and all is as it was. */
+SAM_MUST_USE sam_status sam_client_see(sam_client *client, uint16_t tag, uint32_t start, uint32_t end);
+
+/* Leaves out a file that no window shows: the client loads no more of it by itself. */
+SAM_MUST_USE sam_status sam_client_forget(sam_client *client, uint16_t tag);
+
+/* Counts a key of the user that edits nothing, as one that moves the caret: for a second only what windows show is loaded, so what the key
+ * asks for waits for no slice. A replacement counts by itself. */
+SAM_MUST_USE sam_status sam_client_rest(sam_client *client, uint64_t now);
 
 /* ---- A client: readers of the session ---- */
 

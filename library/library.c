@@ -29,14 +29,14 @@ const char *sam_status_text(sam_status status)
         TEXT(SAM_OK, "the call did what it was asked");
         TEXT(SAM_NO_MEMORY, "out of memory; what the call brought was not taken, so make it again");
         TEXT(SAM_UNFINISHED, "out of memory; what the call brought was taken, so feed no bytes to go on");
-        TEXT(SAM_COUNT_FULL, "a stream has 2^64 bytes, or there were 2^64 events or connections");
+        TEXT(SAM_COUNT_FULL, "a stream has 2^64 bytes, or there were 2^64 events or connections, or 2^32 tasks");
         TEXT(SAM_NO_HANDLE, "the handle is NULL or empty: it was not made yet, or it was freed");
         TEXT(SAM_MADE, "the handle is made already");
         TEXT(SAM_NOT_TEXT, "the bytes are not UTF-8");
         TEXT(SAM_NONE, "there is no such file, or nothing more to hand out");
         TEXT(SAM_WAITING, "some of what came before waits, so make steps or take the splices first; what the call brought was not taken");
         TEXT(SAM_NO_ROOM, "the buffer has less room than what is handed out may need, and nothing was done");
-        TEXT(SAM_TOO_MANY, "1,000 requests wait, so go on first; what the call brought was not taken");
+        TEXT(SAM_TOO_MANY, "1,000 requests wait or 1,000 tasks are open, so go on first; what the call brought was not taken");
         TEXT(SAM_ADD_TOO_LONG, "the name has more than 64 runes, or the text more than 1,000,000");
         TEXT(SAM_ADD_NO_TAG, "all 65,536 tags were given");
         TEXT(SAM_MARK_COMMAND_FILE, "the file is the command file, which is never dirty");

@@ -55,3 +55,19 @@ export class Answers {
     return this.#open.size;
   }
 }
+
+/** Those who wait for something that has a number. */
+export class ByNumber {
+  #waiting = new Map();
+
+  add(number, answer) {
+    this.#waiting.set(number, [...(this.#waiting.get(number) ?? []), answer]);
+  }
+
+  /** Returns those who wait for this number, and no more do. */
+  take(number) {
+    const answers = this.#waiting.get(number) ?? [];
+    this.#waiting.delete(number);
+    return answers;
+  }
+}

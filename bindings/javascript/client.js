@@ -1,15 +1,16 @@
 /* The user's side of a session in one handle: an overlay, and its line to the host. */
 import { editsOut, isFollowed, lendRoom, lendReplacements } from "./edits.js";
-import { PREFIX, make, one } from "./held.js";
+import { PREFIX, make, makeOfBytes, one } from "./held.js";
 import { Clocked } from "./line.js";
-import { MOST_NOTE } from "./link.js";
-import { bytesOut, put, result, short, size, space, truth, u32, u64 } from "./module.js";
+import { MOST_NOTE, bytesIn } from "./link.js";
+import { bytesOut, long, put, result, short, size, space, truth, u32, u64 } from "./module.js";
 import { Shown } from "./overlay.js";
 import { Texts, terminalStep } from "./sides.js";
 
-const TOLD = ["idle", "busy", "stepped", "refused", "note"]; // enum sam_client_event of sulgrevad.h
-const WITH_STEP = ["stepped", "refused"];
-const TOLD_PLACE = 8; // the result behind a sam_did
+const TOLD = ["idle", "busy", "stepped", "refused", "note", "answered", "unanswered"]; // enum sam_client_event of sulgrevad.h
+const WITH_STEP = ["stepped", "refused", "answered", "unanswered"];
+const TOLD_PLACE = 8; // a result behind a sam_did
+const NO_PATH = new Uint8Array(0);
 
 /** Returns the event that a call has handed out. */
 function toldOut() {
@@ -69,6 +70,27 @@ export class Client extends Clocked(Shown(Texts)) {
       }
       return u64(0);
     });
+  }
+
+  begin(kind, { path = NO_PATH, tag = 0 }, now) {
+    makeOfBytes(this, "begin", [long(kind), short(tag)], bytesIn(path), size(now), result(0));
+    return u32(0);
+  }
+
+  write(tag) {
+    return one(this, "write", u32, short(tag));
+  }
+
+  see(tag, start, end) {
+    make(this, "see", short(tag), long(start), long(end));
+  }
+
+  forget(tag) {
+    make(this, "forget", short(tag));
+  }
+
+  rest(now) {
+    make(this, "rest", size(now));
   }
 
   get hasAll() {

@@ -1,6 +1,5 @@
 /* The command lines of a session: what each prints stands in the command file, behind the line. */
 import { EventKind } from "./overlay.js";
-import { errorOf } from "./status.js";
 
 const COMMAND_FILE = 0; // its tag
 const MOST_TYPED = 512; // runes that are typed together
@@ -15,15 +14,16 @@ function piecesOf(text) {
 
 export class CommandLines {
   #session;
-  #requests;
   #answers;
+  #ask;
   #isOpened = false; // the command file was asked for
   #count = 0; // of the lines that are not answered
 
-  constructor(session, requests, answers) {
+  /** `ask` asks for an event, and takes how it is answered. */
+  constructor(session, answers, ask) {
     this.#session = session;
-    this.#requests = requests;
     this.#answers = answers;
+    this.#ask = ask;
   }
 
   /** Runs a line on an open file, and returns what it printed. */
@@ -45,20 +45,16 @@ export class CommandLines {
   #type(tag, line) {
     const pieces = piecesOf(`\n${line}\n`);
     return this.#answers.promise((answer) => {
-      if (!this.#isOpened) this.#requests.ask(EventKind.OPEN_CMD);
+      if (!this.#isOpened) this.#ask(EventKind.OPEN_CMD);
       this.#isOpened = true;
-      this.#requests.ask(EventKind.WORK, { tag });
-      for (const text of pieces.slice(0, -1)) this.#requests.ask(EventKind.TYPE_CMD, { text });
-      this.#requests.ask(EventKind.TYPE_CMD, { text: pieces.at(-1) }, (why) => this.#meet(answer, why));
+      this.#ask(EventKind.WORK, { tag });
+      for (const text of pieces.slice(0, -1)) this.#ask(EventKind.TYPE_CMD, { text });
+      this.#ask(EventKind.TYPE_CMD, { text: pieces.at(-1) }, { resolve: () => this.#meet(answer), reject: answer.reject });
     });
   }
 
   /** The line's newline was typed: what comes up to its unlocking is what it prints. */
-  #meet(answer, why) {
-    if (why !== null) {
-      answer.reject(errorOf(why));
-      return;
-    }
+  #meet(answer) {
     const { client } = this.#session;
     const place = { start: client.len(COMMAND_FILE), end: 0 };
     const isDone = () => {
@@ -72,7 +68,7 @@ export class CommandLines {
   #empty() {
     const { client, isOver } = this.#session;
     if (isOver || this.#count > 0 || client.file(COMMAND_FILE).len < MOST_KEPT) return;
-    this.#requests.ask(EventKind.SELECT, { tag: COMMAND_FILE, start: 0, number: client.len(COMMAND_FILE) });
-    this.#requests.ask(EventKind.TYPE_CMD);
+    this.#ask(EventKind.SELECT, { tag: COMMAND_FILE, start: 0, number: client.len(COMMAND_FILE) });
+    this.#ask(EventKind.TYPE_CMD);
   }
 }

@@ -1,12 +1,10 @@
 /* A session over WebSockets: it connects again by itself, tells how the shown texts change, and answers what is asked for by promises. */
-import { Answers } from "./answers.js";
+import { Answers, ByNumber } from "./answers.js";
 import { Client } from "./client.js";
 import { CommandLines } from "./command_lines.js";
 import { Document } from "./document.js";
-import { Loader } from "./loader.js";
 import { NoteKind, readNote, writeNote } from "./note.js";
 import { EventKind } from "./overlay.js";
-import { Requests } from "./requests.js";
 import { Kind, Missing, NoMemory, NoteFault, SamError, Status, Unfinished, errorOf } from "./status.js";
 import { Wire, now } from "./wire.js";
 
@@ -17,6 +15,7 @@ const MOST_RUNES = 1_000_000; // of a text
 const PAGE = 4096; // runes
 const ALL_TAGS = 65_536;
 const NOT_DONE = [NoteKind.REFUSED, NoteKind.NOT_SAVED];
+const NOBODY = { resolve() {}, reject() {} };
 
 // Milliseconds.
 const RETRY = 100; // until a call is made again for which memory was out
@@ -69,21 +68,18 @@ function read(bytes) {
 export class Session extends EventTarget {
   #client;
   #wire;
-  #requests;
   #lines;
-  #loader;
   #answers = new Answers(() => this.#goSoon());
-  #asked = new Map(); // those who wait for a message of the host, by the number of the request
-  #writes = new Map(); // of each file the number of the write that was asked for last
+  #requests = new ByNumber(); // those who wait until a request has acted
+  #tasks = new ByNumber(); // those who wait until the host has answered a message
   #documents = new Map(); // by their tags
-  #notes = []; // for the host: nothing that comes later overtakes them
-  #number = 0; // of the last request
+  #seen = new Map(); // the stretch that a window shows of each file, by its tag
   #isGreeted = false; // the first message has come
   #isMoving = false;
   #isAsked = false; // something is to move
   #isDue = false; // and it will soon
   #isShort = false; // memory was out
-  #expects = false;
+  #expects = false; // the line knows that promises wait
   #state = Client.DOWN;
   #timer = 0;
   #why = null; // the session is over
@@ -97,10 +93,8 @@ export class Session extends EventTarget {
     for (let failed = 0; failed < failures; failed++) this.#client.broken(this.#client.connected(now()), now());
     const heard = { moved: () => this.#goOn(), failed: (error) => this.#tell("fault", error) };
     this.#wire = new Wire(this.#client, typeof connect === "function" ? connect : () => new WebSocket(connect), heard);
-    this.#requests = new Requests(this.#client, () => this.#goSoon());
-    this.#lines = new CommandLines(this, this.#requests, this.#answers);
-    this.#loader = new Loader(this);
-    this.#requests.ask(EventKind.OFFER_VERSION, { version: VERSION });
+    this.#lines = new CommandLines(this, this.#answers, (...event) => this.#request(...event));
+    this.#request(EventKind.OFFER_VERSION, { version: VERSION });
   }
 
   // ---- Readers
@@ -122,7 +116,7 @@ export class Session extends EventTarget {
   }
 
   get hasAll() {
-    return this.#notes.length === 0 && this.#client.hasAll;
+    return this.#client.hasAll;
   }
 
   isUnsaved(tag) {
@@ -170,19 +164,24 @@ export class Session extends EventTarget {
   document(tag) {
     const known = this.#documents.get(tag);
     if (known) return known;
+    this.see(tag, 0, PAGE);
     const opened = this.#client.file(tag).isOpen ? Promise.resolve() : this.#opened(tag);
+    this.#loadGap(tag, 0, PAGE).catch(() => {}); // asked for at once, the first page comes a round trip sooner
     const document = new Document(this, tag, opened);
     this.#documents.set(tag, document);
-    opened.catch(() => this.#documents.delete(tag));
+    opened.catch(() => this.#forget(tag));
     return document;
   }
 
-  /** The first page is asked for at once, and so comes a round trip sooner. */
   async #opened(tag) {
-    const acted = this.request(EventKind.OPEN, { tag });
-    this.request(EventKind.LOAD, { tag, number: PAGE }).catch(() => {});
-    await acted;
+    await this.request(EventKind.OPEN, { tag });
     await this.#answers.until(() => this.#client.file(tag).isOpen);
+  }
+
+  #forget(tag) {
+    this.#client.forget(tag);
+    this.#seen.delete(tag);
+    this.#documents.delete(tag);
   }
 
   async load(tag, start = 0, end = MOST_RUNES) {
@@ -205,12 +204,17 @@ export class Session extends EventTarget {
     }
   }
 
+  /** Only another stretch has something move: who is told that all rests may say each time what windows show. */
   see(tag, start, end) {
-    this.#loader.see(tag, start, end);
+    this.#client.see(tag, start, end);
+    const last = this.#seen.get(tag);
+    if (last?.start === start && last.end === end) return;
+    this.#seen.set(tag, { start, end });
+    this.#goSoon();
   }
 
   noteKey() {
-    this.#loader.noteKey();
+    this.#client.rest(now());
   }
 
   // ---- What the user does
@@ -218,54 +222,40 @@ export class Session extends EventTarget {
   replace(tag, start, end, text) {
     this.#check();
     this.#client.replace(tag, start, end, text);
-    this.noteKey();
     this.#goSoon();
   }
 
   request(kind, fields) {
-    return this.#answers.promise((answer) => {
-      this.#check();
-      this.#requests.ask(kind, fields, (why) => (why === null ? answer.resolve() : answer.reject(errorOf(why))));
-    });
+    return this.#answers.promise((answer) => this.#request(kind, fields, answer));
+  }
+
+  /** Asks for an event, and has `answer` know once it has acted or was refused. */
+  #request(kind, fields, answer = NOBODY) {
+    this.#check();
+    this.#requests.add(this.#client.ask(kind, fields), answer);
+    this.#goSoon();
   }
 
   ask(kind, fields = {}) {
+    return this.#begun(() => this.#client.begin(kind, fields, now()));
+  }
+
+  write(tag) {
+    return this.#begun(() => this.#client.write(tag));
+  }
+
+  /** Returns a promise of the host's answer to the task whose number `begin` returns. */
+  #begun(begin) {
     return this.#answers.promise((answer) => {
       this.#check();
-      const number = this.#number + 1;
-      this.#notes.push(writeNote({ ...fields, kind, request: number }));
-      this.#number = number;
-      this.#asked.set(number, [answer]);
-      this.#goSoon();
+      this.#tasks.add(begin(), answer);
     });
   }
 
   tell(kind, fields = {}) {
     this.#check();
-    this.#notes.push(writeNote({ ...fields, kind }));
+    this.#client.putNote(writeNote({ ...fields, kind }), now());
     this.#goSoon();
-  }
-
-  write(tag) {
-    return this.#answers.promise((answer) => {
-      this.#check();
-      const number = this.#number + 1;
-      const note = writeNote({ kind: NoteKind.WRITE, request: number, tag });
-      if (this.#requests.ask(EventKind.WRITE, { tag }, (why) => this.#meetWrite(number, why))) {
-        this.#notes.push(note);
-        this.#number = number;
-        this.#asked.set(number, []);
-        this.#writes.set(tag, number);
-      }
-      this.#asked.get(this.#writes.get(tag)).push(answer);
-    });
-  }
-
-  /** The terminal has done its part of a write, or refuses it: then no answer comes. */
-  #meetWrite(number, why) {
-    if (why === null) return;
-    for (const answer of this.#asked.get(number)) answer.reject(errorOf(why));
-    this.#asked.delete(number);
   }
 
   async run(tag, line) {
@@ -278,7 +268,7 @@ export class Session extends EventTarget {
     document.isClosing = true;
     await this.request(EventKind.CLOSE, { tag: document.tag });
     await this.#answers.until(() => !document.isOpen);
-    this.#documents.delete(document.tag);
+    this.#forget(document.tag);
   }
 
   async close() {
@@ -329,7 +319,6 @@ export class Session extends EventTarget {
       this.#try(() => this.#move());
       if (this.isOver) break;
       this.#tell("rest");
-      this.#loader.goOn();
     }
     this.#try(() => this.#send());
     this.#isMoving = false;
@@ -349,12 +338,10 @@ export class Session extends EventTarget {
 
   #move() {
     this.#wire.meetTime();
-    this.#putNotes();
     this.#tellSplices();
     for (let told = this.#client.nextEvent(now()); told.kind !== "idle"; told = this.#client.nextEvent(now())) {
       this.#meet(told);
       this.#answers.settle();
-      this.#putNotes();
     }
     this.#takeBack();
     this.#answers.settle();
@@ -366,14 +353,17 @@ export class Session extends EventTarget {
     this.#tellState();
   }
 
-  #putNotes() {
-    for (; this.#notes.length > 0; this.#notes.shift()) this.#client.putNote(this.#notes[0], now());
+  /** Meets what the client tells. Who waits for what it leaves unanswered is rejected by the end of the session. */
+  #meet({ kind, did }) {
+    if (kind === "stepped") this.#requests.take(did.request).forEach((answer) => answer.resolve());
+    if (kind === "refused") this.#meetRefusal(did);
+    if (kind === "note") this.#hear(read(this.#client.note));
+    if (kind === "answered") this.#hear(read(this.#client.note), this.#tasks.take(did.task));
+    this.#tellSplices(kind === "stepped" && did.kind === Kind.HGROW);
   }
 
-  #meet({ kind, did }) {
-    if (did !== null) this.#requests.meet(did);
-    if (kind === "note") this.#hear(this.#client.note);
-    this.#tellSplices(did?.kind === Kind.HGROW);
+  #meetRefusal({ request, task, why }) {
+    for (const answer of [...this.#requests.take(request), ...this.#tasks.take(task)]) answer.reject(errorOf(why));
   }
 
   #tellSplices(isGap = false) {
@@ -391,11 +381,11 @@ export class Session extends EventTarget {
     }
   }
 
-  /** The line knows of acknowledgements alone, which may come before it dies. */
+  /** A promise may wait for more than the client does: of a write that failed, for the mark behind the answer. */
   #expect() {
-    const expects = this.isWaiting;
-    if (expects !== this.#expects) this.#client.expect(expects, now());
-    this.#expects = expects;
+    if (this.isWaiting === this.#expects) return;
+    this.#expects = this.isWaiting;
+    this.#client.expect(this.#expects, now());
   }
 
   #tellState() {
@@ -409,36 +399,30 @@ export class Session extends EventTarget {
     this.dispatchEvent(new CustomEvent(type, { detail }));
   }
 
-  /** Has the clock wake this when the next thing is due. */
+  /** Has the clock wake this when the next thing is due. Where memory was out that may be at once, for ever: so it waits a while. */
   #setTimer() {
     clearTimeout(this.#timer);
-    const times = [this.dueIn ?? Infinity, this.#isShort ? RETRY : Infinity, this.#wire.isFull ? LOOK_AGAIN : Infinity];
-    const delay = Math.min(...times);
+    const delay = this.#isShort ? RETRY : Math.min(this.dueIn ?? Infinity, this.#wire.isFull ? LOOK_AGAIN : Infinity);
     if (delay < Infinity) this.#timer = setTimeout(() => this.#goOn(), delay);
   }
 
   // ---- What the host tells
 
-  #hear(bytes) {
-    const note = read(bytes);
+  #hear(note, answers = []) {
     if (!this.#isGreeted && (note?.kind !== NoteKind.SESSION || note.number !== MESSAGES)) {
       throw new SessionOver(OTHER_MESSAGES);
     }
     this.#isGreeted = true;
     if (note === null) return;
-    this.#answer(note);
+    for (const answer of answers) this.#answer(answer, note);
     this.#tell("note", note);
     if (note.kind === NoteKind.TAKEN_OVER) throw new SessionLost(Status.LINK_OTHER_SESSION, note.text);
     if (note.kind === NoteKind.ENDED) this.#meetEnd(note);
   }
 
-  #answer(note) {
-    const answers = this.#asked.get(note.request) ?? [];
-    this.#asked.delete(note.request);
-    for (const answer of answers) {
-      const end = () => (NOT_DONE.includes(note.kind) ? answer.reject(new RequestRefused(note)) : answer.resolve(note));
-      this.#answers.hold(answer, () => this.#isWhole(note), end);
-    }
+  #answer(answer, note) {
+    const end = () => (NOT_DONE.includes(note.kind) ? answer.reject(new RequestRefused(note)) : answer.resolve(note));
+    this.#answers.hold(answer, () => this.#isWhole(note), end);
   }
 
   /** Whether all has come of which a message is the answer: behind that of a write stands whether the file is dirty. */

@@ -11,13 +11,13 @@ const GAP = 2 ** 32 - 1; // a rune that is not loaded
 
 const STEPS = ["idle", "locked", "wrote", "edited", "answered", "received", "acted", "refused"]; // enum sam_step of sulgrevad.h
 
-const DID = 12; // words of 32 bits of a sam_did
+const DID = 14; // words of 32 bits of a sam_did
 
-// A sam_did stands at result(0): its event, its request, its count, its step and why, its start and gone, its came, its tag, its kind, and
-// whether it loads.
-const didTag = () => u16(5, 4);
-const didKind = () => u8(5, 6);
-const didLoads = () => u8(5, 7) !== 0;
+// A sam_did stands at result(0): its event, its request, its count, its step and why, its start and gone, its came and task, its tag, its
+// kind, and whether it loads.
+const didTag = () => u16(6);
+const didKind = () => u8(6, 2);
+const didLoads = () => u8(6, 3) !== 0;
 
 function range(side, name, tag) {
   make(side, name, short(tag), result(0), result(1));
@@ -129,7 +129,7 @@ class Side extends Streams {
 /** Returns the step of a terminal that a call has handed out at result(0). */
 export function terminalStep() {
   const change = { start: u32(4), gone: u32(4, 4), came: u32(5) };
-  const numbers = { event: u64(0), request: u64(1), why: u32(3, 4) };
+  const numbers = { event: u64(0), request: u64(1), task: u32(5, 4), why: u32(3, 4) };
   return { step: STEPS[u32(3)], kind: didKind(), tag: didTag(), change, loads: didLoads(), ...numbers };
 }
 
@@ -350,7 +350,7 @@ export class Terminal extends Stepping(Screened(Side)) {
     }
     const words = module.numbersOut(DID * u64(0));
     return Array.from({ length: u64(0) }, (_, at) => {
-      const [start, gone, came, last] = words.slice(DID * at + 8);
+      const [start, gone, came, , last] = words.slice(DID * at + 8);
       return { kind: (last >>> 16) & 0xff, tag: last & 0xffff, change: { start, gone, came } };
     });
   }

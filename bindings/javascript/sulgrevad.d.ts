@@ -328,8 +328,8 @@ export type FileState = {
 };
 /** The result of a step of a terminal: `event` is the number of an event that acted or was refused, and `why` the status of a refusal.
  * `loads` says whether a frame loaded runes in the place of gaps: more of the text is known then, and nothing changed. `request` is the
- * number of the request of a client or an overlay that acted or was refused, as `ask` returned it. A field that is not of its step is 0 or
- * false. */
+ * number of the request of a client or an overlay that acted or was refused, as `ask` returned it, `task` that of the task of a client that
+ * ends by this, as `begin` or `write` returned it. A field that is not of its step is 0 or false. */
 export type TerminalStep = {
   step: "idle" | "locked" | "wrote" | "received" | "acted" | "refused";
   kind: number;
@@ -338,6 +338,7 @@ export type TerminalStep = {
   loads: boolean;
   event: number;
   request: number;
+  task: number;
   why: number;
 };
 
@@ -428,7 +429,7 @@ export declare class Terminal extends Side {
   /** Returns the oldest frame that waits, as the step that receives it will say it: its kind, its file or 0, and the place in its text from
    * which on `gone` runes or gaps will give way; null if no frame waits. So a program can read the runes that will go. */
   nextFrame(): { kind: number; tag: number; start: number; gone: number; loads: boolean } | null;
-  /** Makes steps as long as the next frame edits a text, at most `most` and never more than 1,365, and returns their results. All edits are
+  /** Makes steps as long as the next frame edits a text, at most `most` and never more than 1,170, and returns their results. All edits are
    * of one file. None begins before the place `first`, and none ends after the place where the one before it began. So a program can read
    * the runes that go before the call, and the runes that came after it. If no edit was received it throws as `step` does; else the next
    * step does. */
@@ -908,9 +909,12 @@ export declare class Line extends Clocked {
 
 /** What a client tells as it goes on. `idle`: nothing moves until the host or the user does something, or the time comes; `busy`: 1,000
  * things moved that are not told, and more may; `stepped`: `did` says which frame was received or which event acted, and the splices are
- * to be taken; `refused`: an event was refused, whose number and reason `did` has; `note`: a note came, which `note` of the client has. */
+ * to be taken; `refused`: an event was refused, whose number and reason `did` has; `note`: a note came, which `note` of the client has;
+ * `answered`: a note came, which `note` has, and it answers the task `did.task`; `unanswered`: the session is over, and no answer comes to
+ * that task. */
 export type ClientEvent =
-  { kind: "idle" | "busy" | "note"; did: null } | { kind: "stepped" | "refused"; did: TerminalStep };
+  | { kind: "idle" | "busy" | "note"; did: null }
+  | { kind: "stepped" | "refused" | "answered" | "unanswered"; did: TerminalStep };
 
 /** The user's side of a session in one handle, for a front end whose user never waits, over connections that may break: an overlay, and its
  * line to the host. It moves all between the two by itself. It opens no connection and has no clock: calls take the time, as those of a
@@ -920,9 +924,12 @@ export type ClientEvent =
  *     const attempt = client.connected(now);          it is open; or client.notConnected(now)
  *     client.receive(attempt, bytes, now);            all bytes that came on it; or client.broken(attempt, now)
  *     client.replace(tag, 5, 5, "!");                 the user typed: it is shown from now on
- *     client.ask(EventKind.WRITE, { tag });           the user asked for something else
+ *     client.begin(NoteKind.OPEN, { path }, now);     the host's program is asked for a file
+ *     client.write(tag);                              a file is to be written as it is shown now
+ *     client.ask(EventKind.LOOK, { tag });            the user asked for something else
+ *     client.see(tag, 0, 2000);                       a window shows this: it is loaded first, and then the rest
  *     for (const told of client.goOn(now)) ..         after any of these: a Splice goes into the editor's own text, a ClientEvent tells
- *                                                     of steps, refusals and notes
+ *                                                     of steps, refusals, notes and answers
  *     socket.send(client.takeOut(attempt));           bytes for the connection
  *     client.dueIn(now);                              for so long nothing is to be done
  *
@@ -957,6 +964,29 @@ export declare class Client extends Clocked {
    * those before one that is refused, for which `replace` says why. Throws, in this order, and none is made then: RangeError for a place
    * that can be none; NotText; NoMemory; a SamError with the code WAITING if splices are left; what refuses the first one. */
   replaceEach(tag: number, replacements: Replacement[]): number;
+  /** Has the host's program do something, and returns the number of the task, counted from 1: NoteKind.OPEN, to join the file or the folder
+   * at `path`; COMPLETE, to tell the names that complete a path; or RELOAD, to read the file `tag` anew from its disk. The message goes
+   * behind all that acted, as a note does. `nextEvent` tells once that the answer came (`answered`), or that none comes
+   * (`unanswered`). Throws, in this order, and no task is begun then: NoteFault (NOTE_BAD_KIND) for another kind; a SamError with the code
+   * TOO_MANY if 1,000 tasks are open; CountFull; NoMemory; NoteFault (NOTE_BAD_FIELD) if the kind has no tag and the tag is not 0, or no
+   * path and the path is not empty, (NOTE_BAD_LENGTH) if the message would have more than 4,096 bytes, (NOTE_BAD_PATH) for a zero byte;
+   * CountFull; NoMemory. */
+  begin(kind: number, fields: { path?: Uint8Array; tag?: number }, now: number): number;
+  /** Asks for a file to be written as it is shown now, as `ask` does by WRITE, and returns the number of the task. Its answer is
+   * NoteKind.SAVED or NOT_SAVED; if the write is refused, no answer comes, and `did.task` is its number. A write that would find the same
+   * text as one that waits is that task. Throws, in this order, and no task is begun then: a SamError with the code TOO_MANY if 1,000 tasks
+   * are open; CountFull; NoMemory; then as `ask` does. */
+  write(tag: number): number;
+  /** Notes what a window shows of a file, from the place `start` to the place `end`, in the place of what it showed before. While nothing
+   * else waits, the client loads that by itself, then what is behind it and the rest of the file, in slices, but these only once nobody has
+   * pressed a key for a second (`rest`). Of several files, the one that was told last is first. Any tag and any place may be told, also
+   * before the file is open. Throws NoMemory, and all is as it was. */
+  see(tag: number, start: number, end: number): void;
+  /** Leaves out a file that no window shows: the client loads no more of it by itself. */
+  forget(tag: number): void;
+  /** Counts a key of the user that edits nothing, as one that moves the caret: for a second only what windows show is loaded, so what the
+   * key asks for waits for no slice. A replacement counts by itself. */
+  rest(now: number): void;
   /** Returns whether the host has all that the user did, and all notes: nothing waits here, and the host's end of the link has acknowledged
    * all. */
   readonly hasAll: boolean;
@@ -1073,23 +1103,26 @@ export declare class Session extends EventTarget {
   /** Asks for the names of files that joined the host since, if that of this one is not known. Rejects with Missing if the host has no such
    * file, with what `request` rejects, SessionOver and SessionLost. */
   know(tag: number): Promise<void>;
-  /** Returns the document of a known file, which is opened if it is not, and of which the first page is loaded. */
+  /** Returns the document of a known file, which is opened if it is not. Its first page is loaded, and the rest in slices, once nobody has
+   * pressed a key for a second. Throws NoMemory. */
   document(tag: number): Document;
   /** Loads what is not loaded of a file from the place `start` to the place `end`, and returns once all of it is there. Rejects with
    * EditRefused, NoMemory, SessionOver and SessionLost. */
   load(tag: number, start?: number, end?: number): Promise<void>;
-  /** Tells what a window shows: that is loaded first. The rest of all documents is loaded while nobody types, in slices. */
+  /** Tells what a window shows of a file, in the place of what it showed before: that is loaded first. It may be told at each `rest`, too.
+   * Throws NoMemory. */
   see(tag: number, start: number, end: number): void;
-  /** Takes note of a key of the user: slices wait for a quarter of a second. */
+  /** Takes note of a key of the user: slices wait for a second. A replacement counts by itself. */
   noteKey(): void;
   /** Replaces shown runes of a file, as that of a client does, and throws as that does; SessionOver and SessionLost, too. */
   replace(tag: number, start: number, end: number, text: Text): void;
   /** Asks for an event of EventKind, as `ask` of a client does, and returns once it has acted. Rejects with EditRefused if the terminal
    * refuses it, with what `ask` of a client throws, SessionOver and SessionLost. */
   request(kind: number, fields?: EventFields): Promise<void>;
-  /** Asks the host by a message of NoteKind, and returns its answer. Rejects with RequestRefused if the host refuses it, NoteFault,
-   * NoMemory, SessionOver and SessionLost. */
-  ask(kind: number, fields?: Partial<Note>): Promise<Note>;
+  /** Asks the host by a message of NoteKind, and returns its answer: by OPEN or COMPLETE of a `path`, or by RELOAD of a `tag`. Rejects with
+   * RequestRefused if the host refuses it, NoteFault for another kind, other fields, or a path that no message can have; a
+   * SamError with the code TOO_MANY if 1,000 answers are due; NoMemory, SessionOver and SessionLost. */
+  ask(kind: number, fields?: { path?: Uint8Array; tag?: number }): Promise<Note>;
   /** Tells the host a message that has no answer. Throws NoteFault, NoMemory, SessionOver and SessionLost. */
   tell(kind: number, fields?: Partial<Note>): void;
   /** Has a file written as it is shown now, and returns the host's answer: a note of the kind SAVED, whose `path` and `text` say where.

@@ -26,9 +26,6 @@
 (defvar sulgrevad--client nil "The client of the session, or nil.")
 (defvar sulgrevad--buffers nil "The buffers of open files.")
 (defvar sulgrevad--is-taking nil "Whether a buffer is being changed to what the client shows.")
-(defvar sulgrevad--loads nil
-  "Tags of files of which all is to be loaded.
-Each in a pair, with whether some of it was asked for.")
 
 (defvar-local sulgrevad--tag nil "The tag of the buffer's file.")
 (defvar-local sulgrevad--path nil
@@ -264,8 +261,7 @@ At the client it is PLACE; it is of COUNT runes."
   (let ((end (+ at count)) (text (and (memq kind '(came filled)) (sulgrevad--shown sulgrevad--tag place (+ place count)))))
     (pcase kind
       ('came (sulgrevad--open-step)
-             (sulgrevad--put at at text)
-             (when (text-property-any 0 count 'sulgrevad-gap t text) (sulgrevad--want-whole sulgrevad--tag)))
+             (sulgrevad--put at at text))
       ('went (sulgrevad--open-step)
              (let ((has-sign (sulgrevad--has-sign at end)))
                (sulgrevad--put at end "")
@@ -273,9 +269,9 @@ At the client it is PLACE; it is of COUNT runes."
       ('filled (let ((buffer-undo-list t)) (sulgrevad--put at end text)))
       ('emptied (sulgrevad--let-go))))) ; its file is closed
 
-(defun sulgrevad--want-whole (tag)
-  "Have all of the file TAG be loaded."
-  (unless (assq tag sulgrevad--loads) (push (list tag) sulgrevad--loads)))
+(defun sulgrevad--is-whole (tag)
+  "Whether no character of the file TAG is still to be loaded."
+  (null (sulgrevad-client-first-gap sulgrevad--client tag)))
 
 ;;; How a buffer is
 
@@ -298,7 +294,7 @@ IS-IDLE says that no command line is under way."
       (sulgrevad--take-name)
       (unless (or sulgrevad--has-drifted (eq (buffer-modified-p) (sulgrevad-file-is-unsaved file)))
         (restore-buffer-modified-p (sulgrevad-file-is-unsaved file)))
-      (when (and is-idle (not (assq sulgrevad--tag sulgrevad--loads))) (sulgrevad--close-step)))))
+      (when (and is-idle (sulgrevad--is-whole sulgrevad--tag)) (sulgrevad--close-step)))))
 
 (defun sulgrevad--take-name ()
   "Give the buffer the name that its file has."

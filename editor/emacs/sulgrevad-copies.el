@@ -72,7 +72,7 @@ a new one takes its place."
 (defun sulgrevad--text-of (tag)
   "The text of the file TAG, with words for what isn't loaded."
   (let ((buffer (sulgrevad--buffer-of tag)))
-    (if (and buffer (not (assq tag sulgrevad--loads))) (with-current-buffer buffer (sulgrevad--text))
+    (if (and buffer (sulgrevad--is-whole tag)) (with-current-buffer buffer (sulgrevad--text))
       (sulgrevad--shown tag nil nil sulgrevad--gap-words))))
 
 (defun sulgrevad--keep-text (name tag text)

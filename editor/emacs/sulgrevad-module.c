@@ -199,6 +199,7 @@ static emacs_value broken(emacs_env *env, struct session *session, emacs_value *
     return done(env, sam_client_broken(&session->client, session->attempt, time_of(env, words[0])));
 }
 
+/* Whether a command waits for what the host tells: the library knows of tasks and locks alone. */
 static emacs_value expect(emacs_env *env, struct session *session, emacs_value *words)
 {
     return done(env, sam_client_expect(&session->client, env->is_not_nil(env, words[0]), time_of(env, words[1])));
@@ -260,9 +261,9 @@ static const char *const kinds[SAM_NOTE_NO_JOURNAL + 1] = {
     [SAM_NOTE_TAKEN_OVER] = "taken-over",
 };
 
-/* The message that was told last: `note', its kind, and its fields, paths as bytes. The kind is nil if it can't be read, since it is of a
- * later version. */
-static emacs_value note_of(emacs_env *env, sam_client *client)
+/* The message that was told last: how it was told, its kind, and its fields, paths as bytes. The kind is nil if it can't be read, since it
+ * is of a later version. */
+static emacs_value note_of(emacs_env *env, sam_client *client, const char *told)
 {
     uint8_t bytes[SAM_LINK_MOST_NOTE];
     size_t len = 0;
@@ -271,7 +272,7 @@ static emacs_value note_of(emacs_env *env, sam_client *client)
     if (status == SAM_OK)
         status = sam_note_read(bytes, len, &note);
     const char *kind = status != SAM_OK ? "nil" : kinds[note.kind] != NULL ? kinds[note.kind] : "said";
-    return LIST(env, env->intern(env, "note"), env->intern(env, kind), integer(env, note.request), integer(env, note.tag),
+    return LIST(env, env->intern(env, told), env->intern(env, kind), integer(env, note.request), integer(env, note.tag),
                 integer(env, note.code), integer(env, note.number), bytes_of(env, bytes + note.path_at, note.path_len),
                 bytes_of(env, bytes + note.copy_at, note.copy_len), text_of(env, bytes + note.text_at, note.text_len));
 }
@@ -296,30 +297,37 @@ static emacs_value next_event(emacs_env *env, struct session *session, emacs_val
     sam_client_event told = SAM_CLIENT_BUSY;
     sam_did did;
     sam_status status = SAM_OK;
-    while (status == SAM_OK && told == SAM_CLIENT_BUSY)
+    while (status == SAM_OK && (told == SAM_CLIENT_BUSY || told == SAM_CLIENT_UNANSWERED)) /* the end is told by itself */
         status = sam_client_next_event(&session->client, time_of(env, words[0]), &told, &did);
     if (status != SAM_OK)
         return error_of(env, status);
-    return told == SAM_CLIENT_STEPPED   ? step_of(env, &session->client)
-           : told == SAM_CLIENT_NOTE    ? note_of(env, &session->client)
-           : told == SAM_CLIENT_REFUSED ? LIST(env, env->intern(env, "refused"), words_of(env, did.why))
-                                        : nil(env);
+    return told == SAM_CLIENT_STEPPED    ? step_of(env, &session->client)
+           : told == SAM_CLIENT_NOTE     ? note_of(env, &session->client, "note")
+           : told == SAM_CLIENT_ANSWERED ? note_of(env, &session->client, "answered")
+           : told == SAM_CLIENT_REFUSED  ? LIST(env, env->intern(env, "refused"), words_of(env, did.why))
+                                         : nil(env);
 }
 
 /* ---- What the user does ---- */
 
-/* Puts a request of a kind, a number, and a path, which is a string of bytes. */
-static emacs_value put_request(emacs_env *env, struct session *session, emacs_value *words)
+/* Has samhost open a path, which is a string of bytes, or complete it. The number of the task. */
+static emacs_value begin(emacs_env *env, struct session *session, emacs_value *words)
 {
     bool opens = env->eq(env, words[0], env->intern(env, kinds[SAM_NOTE_OPEN]));
-    struct sam_note note = {.kind = opens ? SAM_NOTE_OPEN : SAM_NOTE_COMPLETE, .request = u32(env, words[1], UINT32_MAX)};
-    uint8_t bytes[SAM_LINK_MOST_NOTE], *path = bytes_in(env, words[2], &note.path_len);
+    uint32_t kind = opens ? SAM_NOTE_OPEN : SAM_NOTE_COMPLETE, task = 0;
     size_t len = 0;
+    uint8_t *path = bytes_in(env, words[1], &len);
     if (path == NULL)
         return nil(env);
-    sam_status status = sam_note_write(&note, path, NULL, NULL, bytes, sizeof bytes, &len);
+    sam_status status = sam_client_begin(&session->client, kind, 0, path, len, time_of(env, words[2]), &task);
     free(path);
-    return done(env, status == SAM_OK ? sam_client_put_note(&session->client, bytes, len, time_of(env, words[3])) : status);
+    return number(env, status, task);
+}
+
+/* All of a file is shown: it is loaded. */
+static emacs_value see(emacs_env *env, struct session *session, emacs_value *words)
+{
+    return done(env, sam_client_see(&session->client, tag_of(env, words[0]), 0, SAM_MOST_RUNES));
 }
 
 /* A text takes the place of the shown runes of a file from a place to a place. Why it can't, or nil. */
@@ -340,10 +348,9 @@ static emacs_value replace(emacs_env *env, struct session *session, emacs_value 
 static emacs_value ask(emacs_env *env, struct session *session, emacs_value *words)
 {
     static const char *const names[] = {
-        [SAM_EVENT_SELECT] = "select",     [SAM_EVENT_VIEW] = "view",   [SAM_EVENT_LOAD] = "load",
-        [SAM_EVENT_OPEN] = "open",         [SAM_EVENT_WRITE] = "write", [SAM_EVENT_CLOSE] = "close",
-        [SAM_EVENT_OPEN_CMD] = "open-cmd", [SAM_EVENT_WORK] = "work",   [SAM_EVENT_OFFER_VERSION] = "offer-version",
-        [SAM_EVENT_TYPE_CMD] = "type-cmd", [SAM_EVENT_EXIT] = "exit"};
+        [SAM_EVENT_SELECT] = "select",     [SAM_EVENT_OPEN] = "open", [SAM_EVENT_WRITE] = "write",
+        [SAM_EVENT_CLOSE] = "close",       [SAM_EVENT_WORK] = "work", [SAM_EVENT_OFFER_VERSION] = "offer-version",
+        [SAM_EVENT_OPEN_CMD] = "open-cmd", [SAM_EVENT_EXIT] = "exit", [SAM_EVENT_TYPE_CMD] = "type-cmd"};
     sam_event event = {.tag = tag_of(env, words[1]), .start = u32(env, words[2], UINT32_MAX), .number = u32(env, words[3], UINT32_MAX)};
     event.version = (uint16_t)event.number;
     for (size_t i = 0; i < sizeof names / sizeof names[0]; i++)
@@ -479,10 +486,12 @@ struct function {
 static const struct function functions[] = {
     {"id", id, 0},
     {"ask", ask, 5},
+    {"see", see, 1},
     {"tick", tick, 1},
     {"file", file, 1},
     {"name", name, 1},
     {"due-in", due_in, 1},
+    {"begin", begin, 3},
     {"broken", broken, 1},
     {"expect", expect, 2},
     {"pieces", pieces, 3},
@@ -495,7 +504,6 @@ static const struct function functions[] = {
     {"first-gap", first_gap, 1},
     {"next-event", next_event, 1},
     {"acknowledge", acknowledge, 0},
-    {"put-request", put_request, 4},
     {"not-connected", not_connected, 1},
 };
 

@@ -36,9 +36,8 @@ nil is samhost's own choice."
   :type 'number)
 
 (defconst sulgrevad-all-tags 65536 "How many tags a session has at most.")
-(defconst sulgrevad-most-load 262144 "How many runes are loaded at once.")
 (defconst sulgrevad-most-told 10 "How many lines of what was told are noted.")
-(defconst sulgrevad-most-kept 100 "How many answers and wishes are noted.")
+(defconst sulgrevad-most-kept 100 "How many wishes are noted.")
 (defconst sulgrevad-most-unsent 0.5 "After how many seconds an edit is sent that no command has made.")
 (defconst sulgrevad-most-silent 60 "For how many seconds a batch Emacs waits for a host that is silent.")
 (defconst sulgrevad-untold 0.5 "For how many seconds at most nothing is said of what takes its time.")
@@ -53,8 +52,8 @@ The host says it, and it becomes a word of a command.")
 (defvar sulgrevad--complaints nil
   "What the host told of files whose last write failed.
 Of each its tag, and in a pair the note and the name that it had.")
-(defvar sulgrevad--hidden nil "Tags of files that the host keeps for terminals.")
-(defvar sulgrevad--answers nil "Answers of the host, in pairs with the numbers of the questions.")
+(defvar sulgrevad--hidden nil "Tags of files that are none of the user's.")
+(defvar sulgrevad--answers nil "Numbers of tasks for which a command waits, in pairs with their answers.")
 (defvar sulgrevad--wishes nil "Files that somebody wishes shown: a tag and a line each.")
 (defvar sulgrevad--ended-with nil "The status with which the session has ended.")
 (defvar sulgrevad--is-named nil "Whether the host has said the first message.")
@@ -94,11 +93,11 @@ undo: saved, they would be written nowhere."
     (condition-case why
         (let ((sulgrevad--is-pumping t))
           (while (and sulgrevad--client (progn (sulgrevad--hand-over-all) sulgrevad--client)
-                      (or (sulgrevad--go-on) (and sulgrevad--client (or (sulgrevad--drop) (sulgrevad--load-more))))))
+                      (or (sulgrevad--go-on) (and sulgrevad--client (sulgrevad--drop)))))
           (when sulgrevad--client
             (let ((is-idle (sulgrevad--is-idle)))
               (sulgrevad--each (lambda () (sulgrevad--update is-idle))))
-            (sulgrevad-client-expect sulgrevad--client (sulgrevad--is-answer-due) (sulgrevad-line--now))
+            (sulgrevad-client-expect sulgrevad--client sulgrevad--is-waiting (sulgrevad-line--now))
             (sulgrevad-line-push sulgrevad--line)
             (sulgrevad--keep-meanwhile)))
       (sulgrevad-no-memory (message "Sulgrevad: %s" (cadr why))
@@ -133,6 +132,7 @@ Return whether there is something."
     (pcase told
       (`(stepped . ,splices) (sulgrevad--take splices))
       (`(refused ,why) (message "Sulgrevad: %s" why))
+      (`(answered . ,note) (sulgrevad--meet-answer note))
       (`(note . ,note) (sulgrevad--meet note)))
     told))
 
@@ -146,28 +146,6 @@ Return whether there is one.  The kill ring has it."
        (message "Sulgrevad: %s has no room for what was put in; the kill ring has it" (sulgrevad-client-name sulgrevad--client tag))
        (sulgrevad--take (list (list 'went tag place count)))
        t))))
-
-(defun sulgrevad--load-more ()
-  "Have the host send more of the files that are to be whole.
-Not while an answer is late.  Return whether it was asked for something."
-  (let ((state (sulgrevad--state)))
-    (unless (or (sulgrevad--is-late) (< 0 (sulgrevad-state-waiting state)) (sulgrevad-state-has-exited state))
-      (cl-some #'sulgrevad--load-one sulgrevad--loads))))
-
-(defun sulgrevad--load-one (load)
-  "Have the host send more of a file, which LOAD in `sulgrevad--loads' names.
-Return whether it was asked for something.  What is loaded whole is shown
-no longer: the terminal would else ask for one gap after the other where
-a command line brings many."
-  (pcase-let* ((`(,tag . ,was-asked) load) (file (sulgrevad--file tag)) (gap (sulgrevad-client-first-gap sulgrevad--client tag)))
-    (cond ((and (sulgrevad-file-is-known file) (or (not (sulgrevad-file-is-open file)) (sulgrevad-file-is-locked file))) nil)
-          (gap (setcdr load t)
-               (sulgrevad--ask 'load tag gap sulgrevad-most-load)
-               t)
-          (t (setq sulgrevad--loads (delq load sulgrevad--loads))
-             (when (and was-asked (sulgrevad-file-is-open file))
-               (sulgrevad--ask 'view tag 0 0)
-               t)))))
 
 (defun sulgrevad--hear (event what)
   "An EVENT of `sulgrevad-line-make' has come, and WHAT."
@@ -186,15 +164,7 @@ a command line brings many."
 
 (defun sulgrevad--is-answered (tag)
   "Whether nothing is under way, and all of the file TAG is here."
-  (and (sulgrevad--is-idle) (not (sulgrevad-file-is-locked (sulgrevad--file tag))) (null (assq tag sulgrevad--loads))))
-
-(defun sulgrevad--is-answer-due ()
-  "Whether an answer of the host is waited for, by a command or a lock."
-  (or sulgrevad--is-waiting
-      (not (sulgrevad--is-idle))
-      (cl-some (lambda (buffer) (sulgrevad-file-is-locked (sulgrevad--file (buffer-local-value 'sulgrevad--tag buffer))))
-               (cl-remove-if-not (lambda (buffer) (and (buffer-live-p buffer) (buffer-local-value 'sulgrevad--tag buffer)))
-                                sulgrevad--buffers))))
+  (and (sulgrevad--is-idle) (not (sulgrevad-file-is-locked (sulgrevad--file tag))) (sulgrevad--is-whole tag)))
 
 (defun sulgrevad--is-late ()
   "Whether the line is lost, or an answer of the host is late."
@@ -216,8 +186,6 @@ One of a later version has no kind."
               (sulgrevad--lose "the session is over"))
       ('taken-over (setq sulgrevad--is-taken t)
                    (sulgrevad--lose (concat "another terminal has taken the session over: " text)))
-      ((or 'names 'opened 'refused)
-       (setq sulgrevad--answers (seq-take (cons (cons (sulgrevad-note-request note) note) sulgrevad--answers) sulgrevad-most-kept)))
       ('shown (setq sulgrevad--wishes
                     (seq-take (append sulgrevad--wishes (list (cons tag (sulgrevad-note-number note)))) sulgrevad-most-kept))
               (run-with-idle-timer sulgrevad-rest nil #'sulgrevad--show-wished))
@@ -225,6 +193,10 @@ One of a later version has no kind."
       ('lost (display-warning 'sulgrevad (concat "samhost: " text) :error)) ; in a buffer that stays
       ((or 'saved 'not-saved) (sulgrevad--meet-written note))
       ((guard (not (string-empty-p text))) (message "samhost: %s" text)))))
+
+(defun sulgrevad--meet-answer (note)
+  "Keep a NOTE, which answers a task, for the command that waits for it."
+  (when-let ((answer (assq (sulgrevad-note-request note) sulgrevad--answers))) (setcdr answer note)))
 
 (defun sulgrevad--meet-written (note)
   "Say what became of a write, as NOTE has it, and keep in mind why it failed."
@@ -292,10 +264,10 @@ number; where it is nil, once the host is silent for
           (most (or (not noninteractive) (< silence sulgrevad-most-silent)))
           (t (< silence sulgrevad-patience)))))
 
-(defun sulgrevad--in-words ()
-  "How the line is, in brackets, or nothing where it is well."
+(defun sulgrevad--in-words (&optional form)
+  "How the line is, in brackets or in FORM, or nothing where it is well."
   (let ((state (and sulgrevad--line (sulgrevad-line-told-state sulgrevad--line))))
-    (if state (format " (%s)" state) "")))
+    (if state (format (or form " (%s)") state) "")))
 
 (defun sulgrevad--tell-of-waiting ()
   "Say that something waits for the host."

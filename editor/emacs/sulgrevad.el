@@ -33,7 +33,6 @@
 (defconst sulgrevad--replacing '((11 . "another program changed it") (12 . "it is there already"))
   "Codes of writes that would have replaced what stands in the file.")
 
-(defvar sulgrevad--number 0 "The number of the last question to the host.")
 (defvar sulgrevad--history nil "Commands that have run hosts.")
 (defvar sulgrevad--paths nil "Paths that were read.")
 
@@ -52,8 +51,7 @@
 
 (defun sulgrevad--lighter ()
   "The mode line's word on how the line is."
-  (let ((state (and sulgrevad--line (sulgrevad-line-told-state sulgrevad--line))))
-    (if state (format " Sam[%s]" state) " Sam")))
+  (concat " Sam" (sulgrevad--in-words "[%s]")))
 
 ;;; Sessions
 
@@ -62,7 +60,7 @@
 WORDS is a function of the session's name.  TAKES-OVER says that it was
 another terminal's."
   (when sulgrevad--client (user-error "There is a session already"))
-  (setq sulgrevad--buffers nil sulgrevad--loads nil sulgrevad--told nil sulgrevad--complaints nil
+  (setq sulgrevad--buffers nil sulgrevad--told nil sulgrevad--complaints nil
         sulgrevad--hidden nil sulgrevad--answers nil sulgrevad--wishes nil sulgrevad--copies nil sulgrevad--ended-with nil
         sulgrevad--is-named nil sulgrevad--is-taken nil sulgrevad--folder default-directory)
   (let (line)
@@ -83,6 +81,7 @@ another terminal's."
   "Wait until the host has told the names of the session's files."
   (sulgrevad--ask 'offer-version 0 0 sulgrevad-version-offered)
   (sulgrevad--ask 'open-cmd)
+  (sulgrevad-client-see sulgrevad--client 0) ; what command lines print
   (unless (sulgrevad--wait (lambda () (and (sulgrevad-file-is-open (sulgrevad--file 0)) (sulgrevad--is-idle))) t)
     (user-error "The host is gone: %s" (string-join (reverse sulgrevad--told) "; "))))
 
@@ -188,15 +187,21 @@ Not one whose text stands nowhere else."
 (defun sulgrevad--await-whole (tag name)
   "Load the file TAG of this NAME, and say how far that is.  \\[keyboard-quit] stops it."
   (unless (sulgrevad-file-is-open (sulgrevad--file tag)) (sulgrevad--ask 'open tag))
-  (sulgrevad--want-whole tag)
+  (sulgrevad-client-see sulgrevad--client tag)
   (let* ((reporter nil)
          (tell (lambda ()
                  (unless reporter (setq reporter (make-progress-reporter (format "Loading %s..." name) 0 100)))
-                 (let ((state (and sulgrevad--line (sulgrevad-line-told-state sulgrevad--line))))
-                   (progress-reporter-force-update reporter (sulgrevad--percent tag) nil (and state (format "%s; C-g stops" state)))))))
-    (unless (sulgrevad--wait (lambda () (null (assq tag sulgrevad--loads))) t tell)
+                 (progress-reporter-force-update reporter (sulgrevad--percent tag) nil (sulgrevad--in-words "%s; C-g stops")))))
+    (unless (sulgrevad--wait (lambda () (sulgrevad--is-here tag)) t tell)
       (error "%s is not loaded: the host does not answer" name))
     (when reporter (progress-reporter-done reporter))))
+
+(defun sulgrevad--is-here (tag)
+  "Whether the file TAG is open and loaded.
+As long as the answer that opens it locks it, its text may be still to
+come."
+  (let ((file (sulgrevad--file tag)))
+    (and (sulgrevad-file-is-open file) (not (sulgrevad-file-is-locked file)) (sulgrevad--is-whole tag))))
 
 (defun sulgrevad--percent (tag)
   "How much of the file TAG is loaded."
@@ -212,12 +217,13 @@ Its hooks run where no file is visited: that of this path is elsewhere."
 
 (defun sulgrevad--question (kind path)
   "Ask the host by a request of KIND about PATH, and return its answer."
-  (let ((number (cl-incf sulgrevad--number)) (bytes (decode-coding-string (encode-coding-string path 'utf-8) 'latin-1)))
-    (sulgrevad-client-put-request sulgrevad--client kind number bytes (sulgrevad-line--now))
-    (when (eq kind 'open) (sulgrevad--ask 'offer-version 0 0 sulgrevad-version-offered))
-    (prog1 (or (sulgrevad--wait (lambda () (cdr (assq number sulgrevad--answers))))
-               (sulgrevad--refuse "That"))
-      (setq sulgrevad--answers (assq-delete-all number sulgrevad--answers)))))
+  (let* ((bytes (decode-coding-string (encode-coding-string path 'utf-8) 'latin-1))
+         (answer (list (sulgrevad-client-begin sulgrevad--client kind bytes (sulgrevad-line--now)))))
+    (push answer sulgrevad--answers)
+    (unwind-protect
+        (progn (when (eq kind 'open) (sulgrevad--ask 'offer-version 0 0 sulgrevad-version-offered))
+               (or (sulgrevad--wait (lambda () (cdr answer))) (sulgrevad--refuse "That")))
+      (setq sulgrevad--answers (delq answer sulgrevad--answers)))))
 
 (defun sulgrevad--is-named (tag)
   "Whether the host has told the name of the file TAG, and all others."
@@ -363,7 +369,6 @@ Return the place in the command file behind it."
     (dolist (part (seq-partition typed sulgrevad-most-typed))
       (sulgrevad--ask 'type-cmd 0 0 0 part)
       (sulgrevad--pump))                ; so many requests don't wait at once
-    (sulgrevad--want-whole 0)
     (+ from (length typed))))
 
 ;;; Writing

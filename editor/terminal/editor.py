@@ -266,15 +266,9 @@ class Editor(WindowLayout, KeyQueue, Actions):
         self._sought, self._aside = None, ""
         self.end_run()
 
-    @property
-    def is_answer_due(self) -> bool:
-        """Whether an answer of the host is waited for: by a lock, by a menu that lacks names, or to leave."""
-        return self.is_leaving or self.joining.is_asking or self.is_lock_held
-
     def pause(self) -> None:
-        """The user pauses: sends what was typed. While he types nothing new is waited for, and to ask would cost each key a call."""
-        if self.way.line.expects or self.clock() - self._edited_at >= BUSY:
-            self.way.line.expect(self.is_answer_due)
+        """The user pauses: sends what was typed. What is pasted is asked for without a lock, so the line hears that it is waited for."""
+        self.way.line.expect(self.pasting is not None)
         self.terminal.flush()
 
     def has_command_file(self) -> bool:

@@ -273,6 +273,8 @@ class Loop:
         self._is_behind = not self.editor.go_on(time.monotonic() + LONGEST_AT_ONCE)
         if not self._is_behind:
             self._level_at = self.terminal.deeds, news
+            if self.editor.slices.is_loading:
+                self.link.look_at_time()
 
     def _update(self) -> None:
         """Bytes have come. Where nothing is left to be done by that, it need not be looked for that again before it sleeps."""

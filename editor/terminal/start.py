@@ -37,7 +37,7 @@ class Wish(NamedTuple):
         times = ["--times"] if any(local_backup.left(self.files).values()) else []  # whether these are newer only the host can tell
         hours = ["--stay", self.hours] if self.hours is not None else []
         dash = ["--"] if any(name.startswith("-") for name in self.files) else []
-        return self._quoted("--undo", *times, *hours, *dash, *self.files)  # so the host offers what earlier sessions left
+        return self._quoted("--left", *times, *hours, *dash, *self.files)
 
     def _quoted(self, *words: str) -> List[str]:
         """Words that come after those of the command."""
@@ -54,7 +54,7 @@ class Wish(NamedTuple):
 
 def edit(wish: Wish) -> int:
     """Runs a host, and edits files. Returns the exit status."""
-    local_backup.host = (*wish.command, "--undo")
+    local_backup.host = tuple(wish.command)
     try:
         link = wish.link()
     except OSError as error:

@@ -147,16 +147,6 @@ static void go_on(void)
         must(status);
 }
 
-/* Tells the line whether an answer of the host is due. It knows of acknowledgements alone, which may come before a connection dies. */
-static void expect_answers(void)
-{
-    bool has_all = false;
-    sam_file file;
-    must(sam_client_has_all(&client, &has_all));
-    must(sam_client_file(&client, TAG, &file));
-    must(sam_client_expect(&client, !has_all || file.is_locked, now()));
-}
-
 static void ask(sam_event_kind kind, uint32_t number)
 {
     sam_event event = {.kind = kind, .tag = TAG, .number = number, .version = 2};
@@ -268,7 +258,6 @@ int main(int argc, char **argv)
     for (bool leaves = false; !leaves;) {
         keep_line(argv[1]);
         go_on();
-        expect_answers();
         send_out();
         draw();
         if (sam_client_due_in(&client, now(), &left) != SAM_OK || left > LONGEST)

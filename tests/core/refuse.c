@@ -2,8 +2,8 @@
  * Loaded before a program, this answers its request number REFUSE for memory with none, or its request number
  * REFUSE_THREAD for a thread with EAGAIN, and then writes a byte to descriptor 9. With REFUSE_COUNT so many requests for
  * memory are refused, from that number on. Of memory only requests of the program itself count, from 1, whichever thread
- * makes them, and not those that the C library makes for it. For each thread that is made a byte is written to
- * descriptor 8.
+ * makes them, and not those that the C library makes for it; with REFUSE_ONCE only those that are made once a file of that
+ * path is there. For each thread that is made a byte is written to descriptor 8.
  */
 #define _GNU_SOURCE
 #include <dlfcn.h>
@@ -25,6 +25,7 @@ typedef int make_thread(pthread_t *, const pthread_attr_t *, void *(*)(void *), 
 
 static uintptr_t first, last;
 static unsigned long refuse, refuse_count, refuse_thread;
+static const char *once;
 static atomic_ulong asked, threads_asked;
 
 /* The first of the loaded files is the program. */
@@ -52,6 +53,7 @@ __attribute__((constructor)) static void start(void)
     refuse = number_in("REFUSE", 0);
     refuse_count = number_in("REFUSE_COUNT", 1);
     refuse_thread = number_in("REFUSE_THREAD", 0);
+    once = getenv("REFUSE_ONCE");
     dl_iterate_phdr(find_program, NULL);
 }
 
@@ -61,9 +63,17 @@ static void note_refusal(void)
         abort();
 }
 
+/* Whether requests count by now. */
+static int has_begun(void)
+{
+    int before = errno, is_there = !once || access(once, F_OK) == 0;
+    errno = before;
+    return is_there;
+}
+
 static int is_refused(void *caller)
 {
-    if ((uintptr_t)caller < first || (uintptr_t)caller >= last)
+    if ((uintptr_t)caller < first || (uintptr_t)caller >= last || !has_begun())
         return 0;
     unsigned long number = ++asked;
     if (refuse == 0 || number < refuse || number - refuse >= refuse_count)

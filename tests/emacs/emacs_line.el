@@ -183,6 +183,12 @@
       (signal-line 'CONT)
       (check "then it is written" (wait-for (lambda () (string-prefix-p "w" (disk file))))))
     (sulgrevad--wait (lambda () (not (sulgrevad--is-late))) 20)
+    ;; Nor does a command wait for ever for what is no answer to a lock.
+    (let ((sulgrevad-patience 0.3))
+      (signal-line 'STOP)
+      (check "a command gives up that waits for names" (null (with-timeout (30 t) (sulgrevad--wait #'ignore))))
+      (signal-line 'CONT))
+    (sulgrevad--wait (lambda () (not (sulgrevad--is-late))) 20)
     (asked t (sulgrevad-quit))))
 
 (defun other-emacs (form)
@@ -338,12 +344,13 @@
     (sulgrevad-quit)))
 
 (defun check-hidden ()
-  "Of a session that samterm had the files which it keeps for itself are not the user's, but one of the same name is."
-  (made "~~undo~~" "text\n")
-  (sulgrevad--begin (list samhost) (lambda (name) (list "--serve" name "--undo" "--" "~~undo~~")) nil)
-  (check "one file is the user's" (equal (sulgrevad--names) '(("~~undo~~" . 1))) (sulgrevad--names))
-  (check "though there are two of its name" (equal (sulgrevad-client-name sulgrevad--client 2) "~~undo~~"))
-  (sulgrevad-quit))
+  "What an earlier session left is none of the user's files, but one of a name like its is."
+  (let ((name (file-name-nondirectory (made "~~left~~ 1 + 1" "text\n"))))
+    (made (concat name ".sam-saved") "left\n")
+    (sulgrevad--begin (list samhost) (lambda (session) (list "--serve" session "--left" "--" name)) nil)
+    (check "one file is the user's" (equal (sulgrevad--names) (list (cons name 1))) (sulgrevad--names))
+    (check "there is another like it" (string-prefix-p "~~left~~ 1 " (sulgrevad-client-name sulgrevad--client 2)))
+    (sulgrevad-quit)))
 
 (defun check-one-buffer ()
   "After a session that was lost its buffer shows the file again, and the text that the host may not have is in one file."
@@ -542,7 +549,7 @@
 
 (defun check-hostile ()
   "What a host says is believed no more than it has to be."
-  (sulgrevad-start (list samhost "--undo") (made "hostile.txt" "text\n"))
+  (sulgrevad-start (list samhost) (made "hostile.txt" "text\n"))
   (let ((line sulgrevad--line) (name (sulgrevad-line-name sulgrevad--line)) (told nil))
     (dolist (word '("$(touch${IFS}OWNED)" "0123456789abcdeg" "0123456789abcdef0" ""))
       (setq told (said (lambda () (sulgrevad--meet (sulgrevad--message 'session 1 word)))))
@@ -557,9 +564,6 @@
     (check "a line without an end is cut" (<= (length (sulgrevad-line-told line)) 4096))
     (setq told (said (lambda () (sulgrevad-line--tell line "\n"))))
     (check "and told, cut" (and told (cl-every (lambda (one) (<= (length one) 4096)) told)) (mapcar #'length told)))
-  (check "a file that a terminal keeps for itself is not offered"
-         (equal (mapcar (lambda (one) (file-name-nondirectory (car one))) (sulgrevad--names)) '("hostile.txt"))
-         (sulgrevad--names))
   (sulgrevad--meet (list 'lost 0 1 1 0 "hostile.txt" "" "the text of hostile.txt is lost: No space left on device"))
   (message "another message")
   (check "a text that is lost is told in a buffer that stays"

@@ -20,8 +20,8 @@ class Did(ctypes.Structure):
 
     _fields_ = [
         ("event", c_uint64), ("request", c_uint64), ("count", c_size_t), ("step", c_uint32), ("why", c_uint32),
-        ("start", c_uint32), ("gone", c_uint32), ("came", c_uint32), ("tag", c_uint16), ("kind", c_uint8),
-        ("loads", c_bool),
+        ("start", c_uint32), ("gone", c_uint32), ("came", c_uint32), ("task", c_uint32), ("tag", c_uint16),
+        ("kind", c_uint8), ("loads", c_bool),
     ]  # fmt: skip
 
 
@@ -197,7 +197,10 @@ SIGNATURES: Dict[str, Tuple[Any, ...]] = {
     "client_step_edits": (c_uint64, POINTER(CChanges), _U32, _DID),
     "client_replace": (c_uint16, c_uint32, c_uint32, *_BYTES), "client_ask": (POINTER(CEvent), *_BYTES, _U64),
     "client_replace_each": (c_uint16, POINTER(CReplacement), c_size_t, *_BYTES, _SIZE),
-    "client_drop_next": (c_uint16, POINTER(CSplice), *_BUFFER, _SIZE), "client_has_all": (_BOOL,),
+    "client_drop_next": (c_uint16, POINTER(CSplice), *_BUFFER, _SIZE),
+    "client_begin": (c_uint32, c_uint16, *_BYTES, c_uint64, _U32), "client_write": (c_uint16, _U32),
+    "client_see": (c_uint16, c_uint32, c_uint32), "client_forget": (c_uint16,), "client_rest": (c_uint64,),
+    "client_has_all": (_BOOL,),
     "client_is_unsaved": (c_uint16, _BOOL), "client_requests": (_SIZE,),
     "client_describe": (c_uint64, POINTER(Details)), "client_words": (*_BUFFER, _SIZE),
     "client_state": (POINTER(State),), "client_file": (c_uint16, POINTER(File)), "client_name": (c_uint16, *_BUFFER, _SIZE),

@@ -34,18 +34,27 @@ class ClientEventKind(enum.IntEnum):
     STEPPED = 2
     REFUSED = 3
     NOTE = 4
+    ANSWERED = 5
+    UNANSWERED = 6
 
 
 class ClientEvent(NamedTuple):
     """What a client told. IDLE: nothing moves until the host or the user does something, or the time comes; BUSY: 1,000 things moved that
     are not told, and more may; STEPPED: `did` says which frame was received or which event acted, and the splices are to be taken;
-    REFUSED: an event was refused, whose number and reason `did` has; NOTE: a note came, which `note` of the client has."""
+    REFUSED: an event was refused, whose number and reason `did` has; NOTE: a note came, which `note` of the client has; ANSWERED: a note
+    came, which `note` has, and it answers the task `did.task`; UNANSWERED: the session is over, and no answer comes to that task."""
 
     kind: ClientEventKind
     did: Optional[TerminalDid] = None
 
 
 KINDS = tuple(ClientEventKind)  # by their numbers
+_WITH_DID = (ClientEventKind.STEPPED, ClientEventKind.REFUSED, ClientEventKind.ANSWERED, ClientEventKind.UNANSWERED)
+
+
+def _event_of(kind: ClientEventKind, did: Did) -> ClientEvent:
+    """Returns what was told."""
+    return ClientEvent(kind, did_of(did) if kind in _WITH_DID else None)
 
 
 class _EditReader:
@@ -77,9 +86,12 @@ class Client(Clocked, Shown, Stopping):
         attempt = client.connected(now)                     it is open; or client.not_connected(now)
         client.receive(attempt, data, now)                  all bytes that came on it; or client.broken(attempt, now)
         client.replace(tag, 5, 5, "!")                      the user typed: it is shown from now on
-        client.ask(EventKind.WRITE, tag)                    the user asked for something else
+        client.begin(NoteKind.OPEN, b"/tmp/a", now=now)     the host's program is asked for a file
+        client.write(tag)                                   a file is to be written as it is shown now
+        client.ask(EventKind.LOOK, tag)                     the user asked for something else
+        client.see(tag, 0, 2000)                            a window shows this: it is loaded first, and then the rest
         for told in client.go_on(now):                      after any of these: a Splice goes into the editor's own text,
-            ..                                              a ClientEvent tells of steps, refusals and notes
+            ..                                              a ClientEvent tells of steps, refusals, notes and answers
         sock.sendall(client.take_out(attempt))              bytes for the connection
         wait(client.due_in(now))                            for so long nothing is to be done
 
@@ -105,8 +117,7 @@ class Client(Clocked, Shown, Stopping):
         if memory is short: call it again later."""
         number, did = c_uint32(), Did()
         self._call("next_event", now, byref(number), byref(did))
-        kind = KINDS[number.value]
-        return ClientEvent(kind, did_of(did) if kind in (ClientEventKind.STEPPED, ClientEventKind.REFUSED) else None)
+        return _event_of(KINDS[number.value], did)
 
     def edits(self, now: int, into: List[ShownEdit], gap: str = "\N{REPLACEMENT CHARACTER}") -> ClientEvent:
         """Goes on as `next_event`, but over each step that is an edit of the host's, loads runes, or is an edit of the user's that acted,
@@ -125,7 +136,7 @@ class Client(Clocked, Shown, Stopping):
             for what, tag, place, count in self.splices():
                 into.append((what, tag, place, count, "" if what == SpliceKind.WENT else self.runes(tag, place, count, gap)))
             kind = ClientEventKind.BUSY
-        return ClientEvent(kind, did_of(did) if kind in (ClientEventKind.STEPPED, ClientEventKind.REFUSED) else None)
+        return _event_of(kind, did)
 
     def go_on(self, now: int) -> Iterator[Union[ClientEvent, Splice]]:
         """Goes on until nothing moves, and yields what is told, but for IDLE and BUSY, and behind each step the changes of the shown text.
@@ -144,9 +155,8 @@ class Client(Clocked, Shown, Stopping):
         return into.raw[: count.value]
 
     def put_note(self, data: Bytes, now: int) -> None:
-        """Puts a note for the host's program, behind all that was composed. So it comes out behind the edits and events that have acted,
-        and before those that wait. Raises, in this order, and the note is not put then: LinkFault (LINK_TOO_LONG) for more than 4,096
-        bytes; CountFull; NoMemory."""
+        """Puts a note for the host's program. It comes out behind the edits and events that have acted, and before those that wait.
+        Raises, in this order, and the note is not put then: LinkFault (LINK_TOO_LONG) for more than 4,096 bytes; CountFull; NoMemory."""
         data = bytes(memoryview(data))
         self._call("put_note", data, len(data), now)
 
@@ -174,6 +184,42 @@ class Client(Clocked, Shown, Stopping):
             if made.value == 0:
                 raise
         return made.value
+
+    # ---- What the host's program is to do
+
+    def begin(self, kind: int, path: Text = b"", tag: int = 0, *, now: int) -> int:
+        """Has the host's program do something, and returns the number of the task, counted from 1: NoteKind.OPEN, to join the file or the
+        folder at a path; COMPLETE, to tell the names that complete a path; or RELOAD, to read the file of a tag anew from its disk. The
+        message goes behind all that acted, as a note does. `next_event` tells once that the answer came (ANSWERED), or that none
+        comes (UNANSWERED). Raises, in this order, and no task is begun then: NoteFault (NOTE_BAD_KIND) for another kind; TooMany if 1,000
+        tasks are open; CountFull; NoMemory; NoteFault (NOTE_BAD_FIELD) if the kind has no tag and the tag is not 0, or no path and the
+        path is not empty, (NOTE_BAD_LENGTH) if the message would have more than 4,096 bytes, (NOTE_BAD_PATH) for a zero byte; CountFull;
+        NoMemory."""
+        path = bytes_of(path)
+        return self._number("begin", c_uint32, kind, tag, path, len(path), now)
+
+    def write(self, tag: int) -> int:
+        """Asks for a file to be written as it is shown now, as `ask` does by WRITE, and returns the number of the task. Its answer is
+        NoteKind.SAVED or NOT_SAVED; if the write is refused, no answer comes, and `did.task` is its number at REFUSED. A write that would
+        find the same text as one that waits is that task. Raises, in this order, and no task is begun then: TooMany if 1,000 tasks are
+        open; CountFull; NoMemory; then as `ask` does."""
+        return self._number("write", c_uint32, tag)
+
+    def see(self, tag: int, start: int, end: int) -> None:
+        """Notes what a window shows of a file, from the place `start` to the place `end`, in the place of what it showed before. While
+        nothing else waits, the client loads that by itself, then what is behind it and the rest of the file, in slices, but these only once
+        nobody has pressed a key for a second (`rest`). Of several files, the one that was told last is first. Any tag and any place may be
+        told, also before the file is open. Raises NoMemory, and all is as it was."""
+        self._call("see", tag, start, end)
+
+    def forget(self, tag: int) -> None:
+        """Leaves out a file that no window shows: the client loads no more of it by itself."""
+        self._call("forget", tag)
+
+    def rest(self, now: int) -> None:
+        """Counts a key of the user that edits nothing, as one that moves the caret: for a second only what windows show is loaded, so what
+        the key asks for waits for no slice. A replacement counts by itself."""
+        self._call("rest", now)
 
     # ---- The session
 

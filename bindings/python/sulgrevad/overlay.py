@@ -95,7 +95,7 @@ def did_of(did: Did) -> TerminalDid:
     """Returns what a step did."""
     why = Status(did.why) if did.why else None
     change = Change(did.start, did.gone, did.came)
-    return TerminalDid(STEPS[did.step], did.kind, did.tag, change, did.event, why, did.loads, did.request)
+    return TerminalDid(STEPS[did.step], did.kind, did.tag, change, did.event, why, did.loads, did.request, did.task)
 
 
 SPLICE_KINDS = (SpliceKind.CAME, *SpliceKind)  # by their numbers, which begin with 1

@@ -33,7 +33,8 @@ class TerminalDid(NamedTuple):
     """The result of a terminal's step. `kind` is the kind of the frame of a RECEIVED step. `tag` is the file of a RECEIVED or ACTED step,
     or 0, and `change` the change of its text. `event` is the number of an event that ACTED or was REFUSED, and `why` the reason of the
     refusal. `loads` says whether the frame loads runes in the place of gaps: more of the text is known then, and nothing changed. `request`
-    is the number of the request of a client or an overlay that ACTED or was REFUSED, as `ask` returned it; 0 if no request did this."""
+    is the number of the request of a client or an overlay that ACTED or was REFUSED, as `ask` returned it; 0 if no request did this. `task`
+    is the number of the task of a client that ends by this, as `begin` or `write` returned it; 0 if none does."""
 
     step: Step
     kind: int = 0
@@ -43,6 +44,7 @@ class TerminalDid(NamedTuple):
     why: Optional[Status] = None
     loads: bool = False
     request: int = 0
+    task: int = 0
 
 
 class NextFrame(NamedTuple):

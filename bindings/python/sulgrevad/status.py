@@ -212,7 +212,7 @@ class Waiting(SamError):
 
 
 class TooMany(SamError):
-    """1,000 requests of a client wait, so go on first; the input was not taken (SAM_TOO_MANY)."""
+    """1,000 requests of a client wait, or 1,000 tasks are open, so go on first; the input was not taken (SAM_TOO_MANY)."""
 
 
 class HandleFault(SamError, ValueError):

@@ -1,5 +1,5 @@
 -- What the calls of a client do. Times are in milliseconds.
-use Rattle.std.specs.Prelude.{◌≡◌, ◌⊎◌, ◌↔◌, ◌*◌, ◌-◌, ◌^◌, ◌==◌, ℕ, Bool, true, false, nat_le, nat_lt, IsTrue, List, [], ◌∷◌, ◌++◌, drop, length, Option, Some, None, Result, Ok, Err}
+use Rattle.std.specs.Prelude.{◌≡◌, ◌⊎◌, ◌↔◌, ◌*◌, ◌==◌, ℕ, Bool, true, false, nat_le, nat_lt, IsTrue, List, [], ◌∷◌, ◌++◌, drop, length, Option, Some, None, Result, Ok, Err}
 use Rattle.sam_runes.specs.Texts.{is_empty}
 use Rattle.sam_link.specs.Sessions.{IsId}
 use Rattle.sam_link.specs.declared.fault.CallFault.{CallFault}
@@ -18,35 +18,39 @@ use Rattle.sam_term.specs.declared.event.UserEvent.{UserEvent}
 use Rattle.sam_endpoint.specs.TermEndpoints.{PlainTermEndpoint}
 use Rattle.sam_endpoint.specs.declared.step.TermStep.{TermStep}
 use Rattle.sam_endpoint.specs.declared.step.TermStep.TheVariants as step
+use Rattle.sam_note.specs.declared.fault.NoteFault.TheVariants.{BadKind}
 use Rattle.sam_overlay.specs.Calls.{PlainOverlay, waiting_at}
-use Rattle.sam_overlay.specs.Numbers.{after_asking, after_telling, no_numbers, number_of, told_number}
 use Rattle.sam_overlay.specs.declared.fault.AskFault.{AskFault}
 use Rattle.sam_overlay.specs.declared.fault.ReplaceFault.{ReplaceFault}
-use Rattle.sam_overlay.specs.declared.numbers.RequestNumbers.{RequestNumbers}
-use Rattle.sam_overlay.specs.declared.shown_change.Asked.{Asked}
 use Rattle.sam_shown.specs.Splices.{splices_of}
 use Rattle.sam_shown.specs.declared.splices.Splice.{Splice}
 use Rattle.sam_client.specs.Batches.{ReplacesEach, count_in}
-use Rattle.sam_client.specs.Clients.{Act, Does, new_client}
-use Rattle.sam_client.specs.Clients.Act.{OfLine, Replace, Request, TakeBack}
+use Rattle.sam_client.specs.Clients.{Act, Does}
+use Rattle.sam_client.specs.Clients.Act.{OfLine, Replace, TakeBack}
 use Rattle.sam_client.specs.Delivery.{HasAll}
-use Rattle.sam_client.specs.Going.{GoesOn, IfIdle, Rests, most_moves}
 use Rattle.sam_client.specs.Notes.{PutsNote}
-use Rattle.sam_client.specs.declared.event.Event.{Event}
-use Rattle.sam_client.specs.declared.event.Event.TheVariants as tell
 use Rattle.sam_client.specs.declared.fault.GoOnFault.{GoOnFault}
 use Rattle.sam_client.specs.declared.replacement.Replaced.{Replaced}
 use Rattle.sam_client.specs.declared.replacement.Replacement.{Replacement}
+use Rattle.sam_front.specs.Fronts as front
+use Rattle.sam_front.specs.Loader.{PlainLoader, later, rest_time, without}
+use Rattle.sam_front.specs.declared.fault.BeginFault.{BeginFault}
+use Rattle.sam_front.specs.declared.fault.WriteFault.{WriteFault}
+use Rattle.sam_front.specs.declared.loader.Seen.{Seen}
+use Rattle.sam_front.specs.declared.told.Order.{Order}
+use Rattle.sam_front.specs.declared.told.Told.{Told}
+use Rattle.sam_front.specs.declared.told.Told.TheVariants as tell
 use Rattle.sam_c.specs.Calls.{AtHandle}
-use Rattle.sam_c.specs.ClientStatus.{event_number, go_on_status}
+use Rattle.sam_c.specs.ClientStatus.{begin_status, event_number, go_on_status, order_of, write_status}
 use Rattle.sam_c.specs.LineStatus.{receive_status, tick_number}
 use Rattle.sam_c.specs.Lines.{CopiesWords}
 use Rattle.sam_c.specs.LinkStatus.{call_status, note_status, out_status, put_status}
 use Rattle.sam_c.specs.Links.{handed_or, id_bytes}
+use Rattle.sam_c.specs.Notes.{fault_status}
 use Rattle.sam_c.specs.OverlayStatus.{ask_status, replace_status}
 use Rattle.sam_c.specs.Overlays.{Handed, HandsBack, NextWaiting, WithText, event_of, told_splice}
-use Rattle.sam_c.specs.Status.{ok, no_memory, is_made, no_handle, no_room, not_text, count_full, nothing, waiting}
-use Rattle.sam_c.specs.Steps.{did_of_term}
+use Rattle.sam_c.specs.Status.{ok, no_memory, is_made, no_handle, no_room, not_text, nothing, waiting}
+use Rattle.sam_c.specs.Steps.{did_nothing, did_of_term}
 use Rattle.sam_c.specs.declared.client_end.ClientEnd.{ClientEnd}
 use Rattle.sam_c.specs.declared.overlay_calls.SamSplice.{SamSplice}
 use Rattle.sam_c.specs.declared.overlay_events.SamEvent.{SamEvent}
@@ -56,19 +60,19 @@ use Rattle.sam_c.specs.declared.steps.SamDid.{SamDid}
 
 -- what waits over the terminal's end
 abbrev pub overlay_of : ClientEnd → PlainOverlay
-overlay_of e = e.client.ordered.overlay
+overlay_of e = e.front.client.ordered.overlay
 
 abbrev pub term_of : ClientEnd → PlainTermEndpoint
 term_of e = (overlay_of e).end
 
 abbrev pub line_of : ClientEnd → Line
-line_of e = e.client.line
+line_of e = e.front.client.line
 
 -- a new client with this id, or why there is none and the handle is as before
 abbrev pub MakesClient : List ℕ → Bool → ℕ → ℕ → Option ClientEnd → Type 0
 MakesClient bytes take_over now status after =
     ((id : Id) × IsId id × (id_bytes id ≡ bytes) × (status ≡ ok)
-    × (after ≡ Some (record { client = new_client id take_over now; splices = []; numbers = no_numbers })))
+    × (after ≡ Some (record { front = front.new_front id take_over now; splices = [] })))
     ⊎ ((status ≡ no_memory) × (after ≡ None))
 
 abbrev pub ClientMade : Option ClientEnd → List ℕ → Bool → ℕ → ℕ → Option ClientEnd → Type 0
@@ -77,15 +81,11 @@ ClientMade (Some e) bytes take_over now status after = (status ≡ is_made) × (
 
 -- what stands beside the client stays
 abbrev pub KeepsBeside : ClientEnd → ClientEnd → Type 0
-KeepsBeside e g = (g.splices ≡ e.splices) × (g.numbers ≡ e.numbers)
-
--- so many requests wait
-abbrev pub requests_of : ClientEnd → ℕ
-requests_of e = length e.client.ordered.queue
+KeepsBeside e g = (g.splices ≡ e.splices) × (g.front ≡ front.with_client e.front g.front.client)
 
 -- this act leads there, and what stands beside the client stays
 abbrev pub ActsOne : ClientEnd → Act → ClientEnd → Type 0
-ActsOne e act g = Does e.client act g.client × KeepsBeside e g
+ActsOne e act g = Does e.front.client act g.front.client × KeepsBeside e g
 
 -- ## Connections
 
@@ -104,6 +104,11 @@ ClientConnected (Some e) now old status new after =
 -- a call of the line that can't be refused
 abbrev pub ClientDone : Option ClientEnd → LineCall → ℕ → Option ClientEnd → Type 0
 ClientDone before made status after = AtHandle before status after (λ e status g. (status ≡ ok) × ActsOne e (OfLine made) g)
+
+abbrev pub ClientExpected : Option ClientEnd → Bool → ℕ → ℕ → Option ClientEnd → Type 0
+ClientExpected before expects now status after =
+    AtHandle before status after
+    (λ e status g. (status ≡ ok) × front.Knows (record e.front { expects = expects }) now g.front × (g.splices ≡ e.splices))
 
 abbrev pub ClientAcknowledged : Option ClientEnd → ℕ → Option ClientEnd → Type 0
 ClientAcknowledged before status after =
@@ -132,46 +137,41 @@ pub record Heard : Type 0 where
 abbrev pub heard : ℕ → SamDid → Heard
 heard kind did = record { kind = kind; did = did }
 
--- the step that is told; one that does nothing, if none is
-abbrev pub step_of : Event → TermStep
-step_of tell.Idle = step.Idle
-step_of tell.Busy = step.Idle
-step_of (tell.Stepped x) = x.step
-step_of (tell.Refused number why) = step.Refused number why
-step_of tell.Note = step.Idle
-
--- what it did, with the number of the request that did it
-abbrev pub event_did : ℕ → Event → SamDid
-event_did request event = record (did_of_term (step_of event)) { request = request }
+-- what was done, by what is told
+abbrev pub did_of_told : Told → SamDid
+did_of_told tell.Idle = did_nothing 0
+did_of_told tell.Busy = did_nothing 0
+did_of_told (tell.Stepped x request) = record (did_of_term x.step) { request = request }
+did_of_told (tell.Refused x) = record (did_of_term (step.Refused x.event x.why)) { request = x.request; task = x.task }
+did_of_told tell.Note = did_nothing 0
+did_of_told (tell.Answered task) = record (did_nothing 0) { task = task }
+did_of_told (tell.Unanswered task) = record (did_nothing 0) { task = task }
 
 -- what is told, or what stood there before
-abbrev pub heard_or : Heard → RequestNumbers → ℕ → Result Event GoOnFault → Heard
-heard_or before n requests (Ok event) = heard (event_number event) (event_did (told_number n requests (step_of event)) event)
-heard_or before n requests (Err why) = before
-
-abbrev pub numbers_or : RequestNumbers → ℕ → Result Event GoOnFault → RequestNumbers
-numbers_or n requests (Ok event) = after_telling n requests (step_of event)
-numbers_or n requests (Err why) = n
+abbrev pub heard_or : Heard → Result Told GoOnFault → Heard
+heard_or before (Ok told) = heard (event_number told) (did_of_told told)
+heard_or before (Err why) = before
 
 -- a step brings its splices
-abbrev pub splices_after : List Splice → Event → List Splice
+abbrev pub splices_after : List Splice → Told → List Splice
 splices_after before tell.Idle = before
 splices_after before tell.Busy = before
-splices_after before (tell.Stepped x) = splices_of x.tag x.told
-splices_after before (tell.Refused number why) = before
+splices_after before (tell.Stepped x request) = splices_of x.tag x.told
+splices_after before (tell.Refused x) = before
 splices_after before tell.Note = before
+splices_after before (tell.Answered task) = before
+splices_after before (tell.Unanswered task) = before
 
-abbrev pub splices_or : List Splice → Result Event GoOnFault → List Splice
-splices_or before (Ok event) = splices_after before event
+abbrev pub splices_or : List Splice → Result Told GoOnFault → List Splice
+splices_or before (Ok told) = splices_after before told
 splices_or before (Err why) = before
 
 -- one call of going on; while splices are left all is as before
 abbrev pub GoesOnOne : ClientEnd → Bool → ℕ → Heard → ℕ → Heard → ClientEnd → Type 0
 GoesOnOne e false now old status new g = (status ≡ waiting) × (new ≡ old) × (g ≡ e)
 GoesOnOne e true now old status new g =
-    (result : Result Event GoOnFault) × GoesOn now most_moves e.client result g.client × IfIdle result (Rests g.client)
-    × (g.splices ≡ splices_or e.splices result) × (g.numbers ≡ numbers_or e.numbers (requests_of g) result)
-    × (status ≡ go_on_status result) × (new ≡ heard_or old e.numbers (requests_of g) result)
+    (result : Result Told GoOnFault) × front.FrontGoesOn e.front now result g.front × (g.splices ≡ splices_or e.splices result)
+    × (status ≡ go_on_status result) × (new ≡ heard_or old result)
 
 abbrev pub ClientWentOn : Option ClientEnd → ℕ → Heard → ℕ → Heard → Option ClientEnd → Type 0
 ClientWentOn None now old status new after = (status ≡ no_handle) × (new ≡ old) × (after ≡ None)
@@ -197,12 +197,12 @@ CopiesNote note false before after old status new = (status ≡ ok) × (after �
 abbrev pub ClientNote : Option ClientEnd → List ℕ → List ℕ → ℕ → ℕ → ℕ → Type 0
 ClientNote None before after old status new = (status ≡ no_handle) × (after ≡ before) × (new ≡ old)
 ClientNote (Some e) before after old status new =
-    CopiesNote e.client.note (nat_lt (length before) (length e.client.note)) before after old status new
+    CopiesNote e.front.client.note (nat_lt (length before) (length e.front.client.note)) before after old status new
 
 abbrev pub ClientNotePut : Option ClientEnd → List ℕ → ℕ → ℕ → Option ClientEnd → Type 0
 ClientNotePut before bytes now status after =
     AtHandle before status after
-    (λ e status g. (result : Result (Unit {0}) NoteFault) × PutsNote e.client bytes now result g.client × KeepsBeside e g
+    (λ e status g. (result : Result (Unit {0}) NoteFault) × PutsNote e.front.client bytes now result g.front.client × KeepsBeside e g
     × (status ≡ note_status result))
 
 -- ## What the user does
@@ -211,8 +211,8 @@ ClientNotePut before bytes now status after =
 abbrev pub ReplacesOne : ClientEnd → Bool → ℕ → ℕ × ℕ → List ℕ → ℕ → ClientEnd → Type 0
 ReplacesOne e false tag range runes status g = (status ≡ waiting) × (g ≡ e)
 ReplacesOne e true tag range runes status g =
-    (result : Result (Unit {0}) ReplaceFault) × ActsOne e (Replace tag range.0 range.1 runes result) g
-    × (status ≡ replace_status (term_of e).stop result)
+    (result : Result (Unit {0}) ReplaceFault) × front.Types e.front (Replace tag range.0 range.1 runes result) g.front
+    × (g.splices ≡ e.splices) × (status ≡ replace_status (term_of e).stop result)
 
 abbrev pub ClientReplacedBy : Option ClientEnd → ℕ → ℕ × ℕ → List ℕ → ℕ → Option ClientEnd → Type 0
 ClientReplacedBy before tag range runes status after =
@@ -231,7 +231,8 @@ Counted = ClientEnd × ℕ
 abbrev pub ReplacesAll : ClientEnd → Bool → ℕ → List Replacement → List ℕ → ℕ → ℕ → Counted → Type 0
 ReplacesAll e false tag xs runes before status g = (status ≡ waiting) × (g ≡ (e, before))
 ReplacesAll e true tag xs runes before status g =
-    (x : Replaced) × ReplacesEach e.client tag xs runes x g.0.client × KeepsBeside e g.0
+    (x : Replaced) × ReplacesEach e.front.client tag xs runes x g.0.front.client
+    × (g.0.front ≡ record e.front { client = g.0.front.client; has_typed = true }) × (g.0.splices ≡ e.splices)
     × (status ≡ replace_status (term_of g.0).stop x.result) × (g.1 ≡ x.made)
 
 -- the text has just the runes that they take, or none is made
@@ -250,22 +251,16 @@ ClientReplacedEach (Some e) tag xs text old status new after =
     (g : ClientEnd) × (after ≡ Some g)
     × WithText (e, 0) text (λ runes status g. ReplacesJust e (count_in xs == length runes) tag xs runes 0 status g) status (g, new)
 
--- a request that was taken has its number
-abbrev pub Numbers : RequestNumbers → ℕ → Result Asked AskFault → ℕ → RequestNumbers → ℕ → Type 0
-Numbers n requests (Ok x) before m number = (m ≡ after_asking n x) × (number ≡ number_of n requests x)
-Numbers n requests (Err why) before m number = (m ≡ n) × (number ≡ before)
-
--- the request is taken, and numbered; none is once there are no more numbers
-abbrev pub Asks : ClientEnd → Bool → UserEvent → ℕ → ℕ → Counted → Type 0
-Asks e true event before status g = (status ≡ count_full) × (g ≡ (e, before))
-Asks e false event before status g =
-    (result : Result Asked AskFault) × Does e.client (Request event result) g.0.client × (g.0.splices ≡ e.splices)
-    × Numbers e.numbers (requests_of g.0) result before g.0.numbers g.1 × (status ≡ ask_status result)
+-- a request is taken, and its number handed out beside the client
+abbrev pub Asks : ClientEnd → UserEvent → ℕ → ℕ → Counted → Type 0
+Asks e event before status g =
+    (result : Result ℕ AskFault) × front.Asks e.front event result g.0.front × (g.0.splices ≡ e.splices)
+    × (status ≡ ask_status result) × (g.1 ≡ handed_or before result)
 
 -- if there is none, nothing is done
 abbrev pub AsksOne : ClientEnd → Option UserEvent → ℕ → ℕ → Counted → Type 0
 AsksOne e None before status g = (status ≡ nothing) × (g ≡ (e, before))
-AsksOne e (Some event) before status g = Asks e (e.numbers.taken == 2 ^ 64 - 1) event before status g
+AsksOne e (Some event) before status g = Asks e event before status g
 
 abbrev pub ClientAskedOne : Option ClientEnd → Option UserEvent → ℕ → ℕ → ℕ → Option ClientEnd → Type 0
 ClientAskedOne None event old status new after = (status ≡ no_handle) × (new ≡ old) × (after ≡ None)
@@ -295,11 +290,59 @@ ClientDropped (Some e) tag old status new after =
     (g : ClientEnd) × (after ≡ Some g)
     × DropsOne e (is_empty e.splices) (nat_le (4 * waiting_at (overlay_of e) tag) (length old.buffer)) tag old status new g
 
+-- ## What the host's program is to do, and what windows show
+
+-- A task is begun, and its number handed out beside the client; no order has any other number
+abbrev pub BeginsOne : ClientEnd → Option Order → ℕ × List ℕ → ℕ → ℕ → ℕ → Counted → Type 0
+BeginsOne e None file now before status g = (status ≡ fault_status BadKind) × (g ≡ (e, before))
+BeginsOne e (Some order) file now before status g =
+    (result : Result ℕ BeginFault) × front.BeginsTask e.front order file.0 file.1 now result g.0.front × (g.0.splices ≡ e.splices)
+    × (status ≡ begin_status result) × (g.1 ≡ handed_or before result)
+
+abbrev pub ClientBegun : Option ClientEnd → ℕ → ℕ × List ℕ → ℕ → ℕ → ℕ → ℕ → Option ClientEnd → Type 0
+ClientBegun None kind file now old status new after = (status ≡ no_handle) × (new ≡ old) × (after ≡ None)
+ClientBegun (Some e) kind file now old status new after =
+    (g : ClientEnd) × (after ≡ Some g) × BeginsOne e (order_of kind) file now old status (g, new)
+
+-- a write is asked for, and the number of its task handed out beside the client
+abbrev pub WritesOne : ClientEnd → ℕ → ℕ → ℕ → Counted → Type 0
+WritesOne e tag before status g =
+    (result : Result ℕ WriteFault) × front.WritesTask e.front tag result g.0.front × (g.0.splices ≡ e.splices)
+    × (status ≡ write_status result) × (g.1 ≡ handed_or before result)
+
+abbrev pub ClientWrote : Option ClientEnd → ℕ → ℕ → ℕ → ℕ → Option ClientEnd → Type 0
+ClientWrote None tag old status new after = (status ≡ no_handle) × (new ≡ old) × (after ≡ None)
+ClientWrote (Some e) tag old status new after = (g : ClientEnd) × (after ≡ Some g) × WritesOne e tag old status (g, new)
+
+-- the same with this loader
+abbrev pub with_loader : ClientEnd → PlainLoader → ClientEnd
+with_loader e l = record e { front = record e.front { loader = l } }
+
+-- what a window shows is noted in front of all others, in the place of what was noted of that file
+abbrev pub SeesOne : ClientEnd → Seen → ℕ → ClientEnd → Type 0
+SeesOne e x status g =
+    ((status ≡ ok) × (g ≡ with_loader e (record e.front.loader { seen = x ∷ without x.tag e.front.loader.seen })))
+    ⊎ ((status ≡ no_memory) × (g ≡ e))
+
+abbrev pub ClientSaw : Option ClientEnd → Seen → ℕ → Option ClientEnd → Type 0
+ClientSaw before x status after = AtHandle before status after (λ e status g. SeesOne e x status g)
+
+abbrev pub ClientForgot : Option ClientEnd → ℕ → ℕ → Option ClientEnd → Type 0
+ClientForgot before tag status after =
+    AtHandle before status after
+    (λ e status g. (status ≡ ok) × (g ≡ with_loader e (record e.front.loader { seen = without tag e.front.loader.seen })))
+
+-- a key that edits nothing: for a while only what windows show is loaded
+abbrev pub ClientRested : Option ClientEnd → ℕ → ℕ → Option ClientEnd → Type 0
+ClientRested before now status after =
+    AtHandle before status after
+    (λ e status g. (status ≡ ok) × (g ≡ with_loader e (record e.front.loader { rests_until = later now rest_time })))
+
 -- ## Readers
 
 abbrev pub ClientHasAll : Option ClientEnd → ℕ → Bool → Bool → Type 0
 ClientHasAll None status old new = (status ≡ no_handle) × (new ≡ old)
-ClientHasAll (Some e) status old new = (status ≡ ok) × (IsTrue new ↔ HasAll e.client)
+ClientHasAll (Some e) status old new = (status ≡ ok) × (IsTrue new ↔ HasAll e.front.client)
 
 abbrev pub ClientNextWaiting : Option ClientEnd → ℕ → ℕ → ℕ → ℕ → Type 0
 ClientNextWaiting None from status before after = (status ≡ no_handle) × (after ≡ before)

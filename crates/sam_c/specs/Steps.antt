@@ -43,7 +43,7 @@ TermBrought before piece status after =
 -- a step of this number that says no more
 abbrev pub did_nothing : ℕ → SamDid
 did_nothing step =
-    record { event = 0; request = 0; count = 0; step = step; why = 0; start = 0; gone = 0; came = 0; tag = 0; kind = 0; loads = false }
+    record { event = 0; request = 0; count = 0; step = step; why = 0; start = 0; gone = 0; came = 0; task = 0; tag = 0; kind = 0; loads = false }
 
 -- frames of this kind bring runes in the place of gaps, and change no text
 abbrev pub is_load : ℕ → Bool

@@ -2,8 +2,8 @@
 //! of `sam_status`; after `SAM_NO_HANDLE`, `SAM_NONE` and each refusal what its other arguments lead to is as it was. `now` is the time, in
 //! milliseconds.
 
-ghost use Rattle.sam_line.specs.Calls.LineCall.{AddressChanged, Broken, Expect, NotConnected};
-ghost use Rattle.sam_c.specs.Clients.{ClientAcknowledged, ClientConnected, ClientDone, ClientMade, ClientReceived, ClientTakenOut};
+ghost use Rattle.sam_line.specs.Calls.LineCall.{AddressChanged, Broken, NotConnected};
+ghost use Rattle.sam_c.specs.Clients.{ClientAcknowledged, ClientConnected, ClientDone, ClientExpected, ClientMade, ClientReceived, ClientTakenOut};
 ghost use Rattle.sam_c.specs.Clients.{ClientTicked};
 ghost use Rattle.sam_c.specs.Hosts.{Freed};
 
@@ -13,8 +13,7 @@ use crate::line_status::{receive_status, tick_number};
 use crate::link_calls::SamLinkId;
 use crate::link_status::{call_fault, out_fault, put_status};
 use crate::status::{MADE, NO_HANDLE, NO_MEMORY, OK};
-use sam_client::Client;
-use sam_overlay::RequestNumbers;
+use sam_front::Front;
 use sam_shown::Splices;
 use std::alloc::Global;
 
@@ -34,9 +33,8 @@ pub extern "C" fn sam_client_new(
         return MADE;
     }
     let made = ClientEnd {
-        client: Client::new(alloc, id.to_id(), take_over, now),
+        front: Front::new(alloc, id.to_id(), take_over, now),
         splices: Splices::none(),
-        numbers: RequestNumbers::new(),
     };
     let Ok(end) = Box::new(alloc, made) else {
         return NO_MEMORY;
@@ -66,7 +64,7 @@ pub extern "C" fn sam_client_tick(
 ) -> u32
     ensures { ClientTicked client.old.held.end now tick.old result tick.new client.new.held.end }
 {
-    with_end!(client alloc mut end { *tick = tick_number(end.client.tick(now)); OK })
+    with_end!(client alloc mut end { *tick = tick_number(end.front.client.tick(now)); OK })
 }
 
 /// Takes a connection that is open, and hands out its number. Errors, in this order: `SAM_NO_HANDLE`; `SAM_COUNT_FULL`.
@@ -80,7 +78,7 @@ pub extern "C" fn sam_client_connected(
     ensures { ClientConnected client.old.held.end now attempt.old result attempt.new client.new.held.end }
 {
     with_end!(client alloc mut end {
-        match end.client.connected(now) {
+        match end.front.client.connected(now) {
             Ok(number) => {
                 *attempt = number;
                 OK
@@ -95,7 +93,7 @@ pub extern "C" fn sam_client_connected(
 pub extern "C" fn sam_client_not_connected(client: &mut SamClient, now: u64, alloc: Global) -> u32
     ensures { ClientDone client.old.held.end (NotConnected now) result client.new.held.end }
 {
-    with_end!(client alloc mut end { end.client.not_connected(now); OK })
+    with_end!(client alloc mut end { end.front.client.not_connected(now); OK })
 }
 
 /// Notes that a connection is over. One that isn't the newest changes nothing but the time. `SAM_NO_HANDLE` if the handle is empty.
@@ -108,7 +106,7 @@ pub extern "C" fn sam_client_broken(
 ) -> u32
     ensures { ClientDone client.old.held.end (Broken attempt now) result client.new.held.end }
 {
-    with_end!(client alloc mut end { end.client.broken(attempt, now); OK })
+    with_end!(client alloc mut end { end.front.client.broken(attempt, now); OK })
 }
 
 /// Notes that an address of the machine came or went. `SAM_NO_HANDLE` if the handle is empty.
@@ -116,10 +114,10 @@ pub extern "C" fn sam_client_broken(
 pub extern "C" fn sam_client_address_changed(client: &mut SamClient, now: u64, alloc: Global) -> u32
     ensures { ClientDone client.old.held.end (AddressChanged now) result client.new.held.end }
 {
-    with_end!(client alloc mut end { end.client.address_changed(now); OK })
+    with_end!(client alloc mut end { end.front.client.address_changed(now); OK })
 }
 
-/// Notes whether the program waits for an answer of the host's program. `SAM_NO_HANDLE` if the handle is empty.
+/// Notes whether the program waits for an answer to a note of its own. `SAM_NO_HANDLE` if the handle is empty.
 #[unsafe(no_mangle)]
 pub extern "C" fn sam_client_expect(
     client: &mut SamClient,
@@ -127,9 +125,9 @@ pub extern "C" fn sam_client_expect(
     now: u64,
     alloc: Global,
 ) -> u32
-    ensures { ClientDone client.old.held.end (Expect expects now) result client.new.held.end }
+    ensures { ClientExpected client.old.held.end expects now result client.new.held.end }
 {
-    with_end!(client alloc mut end { end.client.expect(expects, now); OK })
+    with_end!(client alloc mut end { end.front.expect(expects, now); OK })
 }
 
 /// Takes the next piece of a connection, all of it or nothing. Errors: `SAM_NO_HANDLE`; then those of
@@ -144,7 +142,7 @@ pub extern "C" fn sam_client_receive(
 ) -> u32
     ensures { ClientReceived client.old.held.end attempt bytes.now now result client.new.held.end }
 {
-    with_end!(client alloc mut end { receive_status(end.client.receive(attempt, bytes, now)) })
+    with_end!(client alloc mut end { receive_status(end.front.client.receive(attempt, bytes, now)) })
 }
 
 /// Moves the next bytes for a connection into the buffer, as many as there are and have room, and hands out how many. Errors, in this
@@ -160,7 +158,7 @@ pub extern "C" fn sam_client_take_out(
     ensures { ClientTakenOut client.old.held.end attempt into.old into.new count.old result count.new client.new.held.end }
 {
     with_end!(client alloc mut end {
-        match end.client.take_out(attempt, into) {
+        match end.front.client.take_out(attempt, into) {
             Ok(number) => {
                 *count = number;
                 OK
@@ -175,5 +173,5 @@ pub extern "C" fn sam_client_take_out(
 pub extern "C" fn sam_client_acknowledge(client: &mut SamClient, alloc: Global) -> u32
     ensures { ClientAcknowledged client.old.held.end result client.new.held.end }
 {
-    with_end!(client alloc mut end { put_status(end.client.acknowledge()) })
+    with_end!(client alloc mut end { put_status(end.front.client.acknowledge()) })
 }

@@ -2,14 +2,14 @@
 //! of `sam_status`; after `SAM_NO_HANDLE`, `SAM_NONE` and each refusal what its other arguments lead to is as it was. `now` is the time, in
 //! milliseconds.
 
-ghost use Rattle.std.specs.Prelude.{◌≡◌, ◌≤◌, ◌*◌, ◌-◌, ◌^◌, ◌==◌, IfSome, IsTrue, length, nat_lt};
+ghost use Rattle.std.specs.Prelude.{◌≡◌, ◌≤◌, ◌*◌, IfSome, IsTrue, length, nat_lt, true};
 ghost use Rattle.sam_overlay.specs.Calls.{waiting_at};
 ghost use Rattle.sam_overlay.specs.Overlays.{is_request};
 ghost use Rattle.sam_c.specs.ClientStatus.{event_number};
 ghost use Rattle.sam_c.specs.Clients.{Asks, ClientAsked, ClientAskedOne, ClientDropped, ClientNextSplice, ClientNote, ClientNotePut};
 ghost use Rattle.sam_c.specs.Clients.{ClientReplaced, ClientReplacedBy, ClientReplacedEach, ClientReplacedEachBy};
-ghost use Rattle.sam_c.specs.Clients.{ClientWentOn, CopiesNote, TakesBack};
-ghost use Rattle.sam_c.specs.Clients.{event_did, heard, overlay_of, splices_after, step_of};
+ghost use Rattle.sam_c.specs.Clients.{ClientWentOn, CopiesNote, GoesOnOne, TakesBack};
+ghost use Rattle.sam_c.specs.Clients.{did_of_told, heard, overlay_of, splices_after};
 ghost use Rattle.sam_c.specs.Overlays.{handed};
 
 use crate::client_end::ClientEnd;
@@ -20,43 +20,65 @@ use crate::overlay_calls::{SamSplice, told_splice};
 use crate::overlay_drops::hand_back;
 use crate::overlay_events::{SamEvent, event_of};
 use crate::overlay_status::{ask_status, replace_fault};
-use crate::status::{COUNT_FULL, NO_HANDLE, NO_ROOM, NONE, NOT_TEXT, OK, WAITING};
-use crate::steps::{SamDid, did_of_term};
+use crate::status::{NO_HANDLE, NO_ROOM, NONE, NOT_TEXT, OK, WAITING};
+use crate::steps::{IDLE, SamDid, did_nothing, did_of_term};
 use crate::term_events::read_status;
-use sam_client::{Event, Replacement, take_together};
+use sam_client::{Replacement, take_together};
 use sam_endpoint::TermStep;
+use sam_front::Told;
 use sam_runes::read_utf8;
 use sam_shown::Splices;
 use sam_term::UserEvent;
 use std::alloc::Global;
 
-/// Returns the step that is told; one that does nothing, if none is.
-fn step_of(event: &Event) -> TermStep
-    ensures { result ≡ step_of event.now }
+/// Returns what was done, by what is told.
+fn did_of_told(told: &Told) -> SamDid
+    ensures { result ≡ did_of_told told.now }
 {
-    match event {
-        Event::Idle | Event::Busy | Event::Note => TermStep::Idle,
-        Event::Refused(number, why) => TermStep::Refused {
-            number: *number,
-            why: *why,
+    match told {
+        Told::Idle | Told::Busy | Told::Note => did_nothing(IDLE),
+        Told::Answered(task) | Told::Unanswered(task) => SamDid {
+            task: *task,
+            ..did_nothing(IDLE)
         },
-        Event::Stepped(step) => step.step,
+        Told::Refused(refused) => SamDid {
+            request: refused.request,
+            task: refused.task,
+            ..did_of_term(TermStep::Refused {
+                number: refused.event,
+                why: refused.why,
+            })
+        },
+        Told::Stepped(step, request) => SamDid {
+            request: *request,
+            ..did_of_term(step.step)
+        },
     }
 }
 
-/// Hands out what is told: its number, what a step did, the number of the request that did it, and the splices of that step.
-fn tell_event(event: Event, request: u64, kind: &mut u32, did: &mut SamDid, splices: &mut Splices)
-    ensures kind { kind.new ≡ event_number event }
-    ensures did { did.new ≡ event_did request event }
-    ensures splices { splices.new ≡ splices_after splices.old event }
+/// Hands out what is told: its number, what was done, and the splices of a step.
+fn tell(told: Told, kind: &mut u32, did: &mut SamDid, splices: &mut Splices)
+    ensures kind { kind.new ≡ event_number told }
+    ensures did { did.new ≡ did_of_told told }
+    ensures splices { splices.new ≡ splices_after splices.old told }
 {
-    *kind = event_number(&event);
-    *did = SamDid {
-        request,
-        ..did_of_term(step_of(&event))
-    };
-    if let Event::Stepped(step) = event {
+    *kind = event_number(&told);
+    *did = did_of_told(&told);
+    if let Told::Stepped(step, _) = told {
         *splices = Splices::of(step.tag, step.told);
+    }
+}
+
+/// Has a client of which no splice is left go on, and hands out what is told.
+fn go_on(end: &mut ClientEnd, now: u64, kind: &mut u32, did: &mut SamDid) -> u32
+    ensures { GoesOnOne end.old true now (heard kind.old did.old) result (heard kind.new did.new) end.new }
+{
+    match end.front.go_on(now) {
+        Ok(told) => {
+            tell(told, kind, did, &mut end.splices);
+            OK
+        }
+        Err(why) => go_on_fault(why),
     }
 }
 
@@ -78,15 +100,7 @@ pub extern "C" fn sam_client_next_event(
 {
     with_end!(client alloc mut end {
         if end.splices.is_empty() {
-            match end.client.go_on(now) {
-                Ok(event) => {
-                    let waiting = end.client.requests();
-                    let request = end.numbers.tell(step_of(&event), waiting);
-                    tell_event(event, request, kind, did, &mut end.splices);
-                    OK
-                }
-                Err(why) => go_on_fault(why),
-            }
+            go_on(&mut end, now, kind, did)
         } else {
             WAITING
         }
@@ -138,7 +152,7 @@ pub extern "C" fn sam_client_note(
     ensures told { ClientNote client.old.held.end into.old into.new len.old result len.new }
     ensures kept { client.new.held.end ≡ client.old.held.end }
 {
-    with_end!(client alloc end { copy_note(end.client.note(), into, len) })
+    with_end!(client alloc end { copy_note(end.front.client.note(), into, len) })
 }
 
 /// Puts a note for the host's program, behind all that the user did and that was composed. Errors, in this order: `SAM_NO_HANDLE`;
@@ -152,7 +166,7 @@ pub extern "C" fn sam_client_put_note(
 ) -> u32
     ensures { ClientNotePut client.old.held.end bytes.now now result client.new.held.end }
 {
-    with_end!(client alloc mut end { note_status(end.client.put_note(bytes, now)) })
+    with_end!(client alloc mut end { note_status(end.front.client.put_note(bytes, now)) })
 }
 
 /// Puts the runes in the place of what is shown of a file from the place `start` to the place `end`, in the client that a handle holds.
@@ -167,9 +181,9 @@ fn replace(
 {
     with_end!(client alloc mut end {
         if end.splices.is_empty() {
-            match end.client.replace(tag, range.0, range.1, runes) {
+            match end.front.replace(tag, range.0, range.1, runes) {
                 Ok(()) => OK,
-                Err(why) => replace_fault(end.client.overlay().end().stopped(), why),
+                Err(why) => replace_fault(end.front.client.overlay().end().stopped(), why),
             }
         } else {
             WAITING
@@ -218,11 +232,11 @@ fn replace_each(
         if !take_together(replacements, runes.len()) {
             NOT_TEXT
         } else if end.splices.is_empty() {
-            let replaced = end.client.replace_each(tag, replacements, runes);
+            let replaced = end.front.replace_each(tag, replacements, runes);
             *made = replaced.made;
             match replaced.result {
                 Ok(()) => OK,
-                Err(why) => replace_fault(end.client.overlay().end().stopped(), why),
+                Err(why) => replace_fault(end.front.client.overlay().end().stopped(), why),
             }
         } else {
             WAITING
@@ -262,15 +276,11 @@ pub extern "C" fn sam_client_replace_each(
 /// Has a client take the request, and hands out its number.
 fn ask(end: &mut ClientEnd, event: UserEvent, number: &mut u64) -> u32
     requires { IsTrue (is_request event) }
-    ensures { Asks end.old (end.old.numbers.taken == 2 ^ 64 - 1) event number.old result (end.new, number.new) }
+    ensures { Asks end.old event number.old result (end.new, number.new) }
 {
-    if end.numbers.is_full() {
-        return COUNT_FULL;
-    }
-    let came = end.client.ask(event);
-    if let Ok(asked) = came {
-        let waiting = end.client.requests();
-        *number = end.numbers.number(asked, waiting);
+    let came = end.front.ask(event);
+    if let Ok(request) = came {
+        *number = request;
     }
     ask_status(came)
 }
@@ -326,7 +336,7 @@ fn take_back(
     requires { 4 * waiting_at (overlay_of end.old) tag ≤ length into.old }
     ensures { TakesBack end.old tag (handed splice.old into.old len.old) result (handed splice.new into.new len.new) end.new }
 {
-    let came = end.client.drop_next(tag);
+    let came = end.front.client.drop_next(tag);
     hand_back(tag, came, splice, into, len)
 }
 
@@ -351,7 +361,7 @@ pub extern "C" fn sam_client_drop_next(
     with_end!(client alloc mut end {
         if !end.splices.is_empty() {
             WAITING
-        } else if into.len() < end.client.overlay().waiting(tag) as usize * 4 {
+        } else if into.len() < end.front.client.overlay().waiting(tag) as usize * 4 {
             NO_ROOM
         } else {
             take_back(&mut end, tag, splice, into, len)

@@ -2,9 +2,10 @@
 //! `SAM_NO_HANDLE` if the handle is empty; after that, and after `SAM_NONE`, what its other arguments lead to is as it was. Places count
 //! runes and gaps from the beginning of what is shown. `now` is the time, in milliseconds.
 
-ghost use Rattle.std.specs.Prelude.{◌≡◌, Some, drop, length, option_map};
+ghost use Rattle.std.specs.Prelude.{◌≡◌, ◌-◌, Some, drop, length, option_map};
 ghost use Rattle.sam_client.specs.Delivery.{is_unsaved};
 ghost use Rattle.sam_endpoint.specs.TermEndpoints.{fault_place};
+ghost use Rattle.sam_front.specs.Fronts.{sooner};
 ghost use Rattle.sam_line.specs.Clock.{due_in};
 ghost use Rattle.sam_line.specs.Line.{is_due};
 ghost use Rattle.sam_overlay.specs.Calls.{waiting_at};
@@ -26,7 +27,7 @@ use crate::telling::tell_some;
 use crate::utf8::{countable, runes_from, tell_name, tell_text};
 use std::alloc::Global;
 
-/// Hands out how many milliseconds it is until the client has something to say. `SAM_NONE` if it never has, unless another call comes.
+/// Hands out how many milliseconds it is until the client has something to do. `SAM_NONE` if it never has, unless another call comes.
 #[unsafe(no_mangle)]
 pub extern "C" fn sam_client_due_in(
     client: &mut SamClient,
@@ -35,10 +36,10 @@ pub extern "C" fn sam_client_due_in(
     alloc: Global,
 ) -> u32
     ensures told { ReportsSome client.old.held.end result left.old left.new
-        (λ e. due_in (line_of e).clock (is_due (line_of e)) now) }
+        (λ e. sooner (due_in (line_of e).clock (is_due (line_of e)) now) (option_map (λ time. time - now) e.front.loads_at)) }
     ensures kept { client.new.held.end ≡ client.old.held.end }
 {
-    with_end!(client alloc end { tell_some(end.client.due_in(now), left) })
+    with_end!(client alloc end { tell_some(end.front.due_in(now), left) })
 }
 
 /// Hands out how many requests wait, those not among them that the terminal has.
@@ -48,10 +49,10 @@ pub extern "C" fn sam_client_requests(
     count: &mut usize,
     alloc: Global,
 ) -> u32
-    ensures told { Reports client.old.held.end result count.old count.new (λ e. length e.client.ordered.queue) }
+    ensures told { Reports client.old.held.end result count.old count.new (λ e. length e.front.client.ordered.queue) }
     ensures kept { client.new.held.end ≡ client.old.held.end }
 {
-    with_end!(client alloc end { *count = end.client.requests(); OK })
+    with_end!(client alloc end { *count = end.front.client.requests(); OK })
 }
 
 /// Hands out how the line to the host stands, in one call.
@@ -65,7 +66,7 @@ pub extern "C" fn sam_client_describe(
     ensures told { Reports client.old.held.end result details.old details.new (λ e. line_details now (line_of e)) }
     ensures kept { client.new.held.end ≡ client.old.held.end }
 {
-    with_end!(client alloc end { *details = details_of(end.client.line(), now); OK })
+    with_end!(client alloc end { *details = details_of(end.front.client.line(), now); OK })
 }
 
 /// Copies the words that came before the host's hello on the newest connection, as many bytes as have room, and hands out how many.
@@ -79,7 +80,7 @@ pub extern "C" fn sam_client_words(
     ensures told { ClientWords client.old.held.end into.old into.new len.old result len.new }
     ensures kept { client.new.held.end ≡ client.old.held.end }
 {
-    with_end!(client alloc end { *len = fill(end.client.line().words(), into); OK })
+    with_end!(client alloc end { *len = fill(end.front.client.line().words(), into); OK })
 }
 
 /// Hands out whether the host has all that the user did, and all notes.
@@ -88,7 +89,7 @@ pub extern "C" fn sam_client_has_all(client: &mut SamClient, has: &mut bool, all
     ensures told { ClientHasAll client.old.held.end result has.old has.new }
     ensures kept { client.new.held.end ≡ client.old.held.end }
 {
-    with_end!(client alloc end { *has = end.client.has_all(); OK })
+    with_end!(client alloc end { *has = end.front.client.has_all(); OK })
 }
 
 /// Hands out whether what is shown of a file may differ from what was written last. False if the tag is not known.
@@ -99,10 +100,10 @@ pub extern "C" fn sam_client_is_unsaved(
     unsaved: &mut bool,
     alloc: Global,
 ) -> u32
-    ensures told { Reports client.old.held.end result unsaved.old unsaved.new (λ e. is_unsaved e.client tag) }
+    ensures told { Reports client.old.held.end result unsaved.old unsaved.new (λ e. is_unsaved e.front.client tag) }
     ensures kept { client.new.held.end ≡ client.old.held.end }
 {
-    with_end!(client alloc end { *unsaved = end.client.is_unsaved(tag); OK })
+    with_end!(client alloc end { *unsaved = end.front.client.is_unsaved(tag); OK })
 }
 
 /// Hands out what the terminal holds, in one call.
@@ -115,7 +116,7 @@ pub extern "C" fn sam_client_state(
     ensures told { Reports client.old.held.end result state.old state.new (λ e. term_state (term_of e)) }
     ensures kept { client.new.held.end ≡ client.old.held.end }
 {
-    with_end!(client alloc end { *state = state_of(end.client.overlay().end()); OK })
+    with_end!(client alloc end { *state = state_of(end.front.client.overlay().end()); OK })
 }
 
 /// Hands out what the terminal knows of a tag, in one call. Length, dot and view are those of what is loaded, without the edits that wait.
@@ -129,7 +130,7 @@ pub extern "C" fn sam_client_file(
     ensures told { Reports client.old.held.end result file.old file.new (λ e. file_state (term_of e) tag) }
     ensures kept { client.new.held.end ≡ client.old.held.end }
 {
-    with_end!(client alloc end { *file = file_of(end.client.overlay().end(), tag); OK })
+    with_end!(client alloc end { *file = file_of(end.front.client.overlay().end(), tag); OK })
 }
 
 /// Puts the name of a known file into the buffer in UTF-8, as many whole runes as have room, and hands out how many bytes. `SAM_NONE` if
@@ -146,7 +147,7 @@ pub extern "C" fn sam_client_name(
         (λ e. option_map (λ f. f.name) (known_of (term_of e) tag)) }
     ensures kept { client.new.held.end ≡ client.old.held.end }
 {
-    with_end!(client alloc end { tell_file_name(end.client.overlay().end(), tag, into, len) })
+    with_end!(client alloc end { tell_file_name(end.front.client.overlay().end(), tag, into, len) })
 }
 
 /// Hands out the tag of the file that the host named last in its answer to a change of the work file or to a new file. `SAM_NONE` if it
@@ -157,7 +158,7 @@ pub extern "C" fn sam_client_current(client: &mut SamClient, tag: &mut u16, allo
     ensures kept { client.new.held.end ≡ client.old.held.end }
 {
     with_end!(client alloc end {
-        tell_some(end.client.overlay().end().term().current(), tag)
+        tell_some(end.front.client.overlay().end().term().current(), tag)
     })
 }
 
@@ -173,7 +174,7 @@ pub extern "C" fn sam_client_pattern(
     ensures kept { client.new.held.end ≡ client.old.held.end }
 {
     with_end!(client alloc end {
-        tell_name(end.client.overlay().end().term().pattern(), into, len)
+        tell_name(end.front.client.overlay().end().term().pattern(), into, len)
     })
 }
 
@@ -193,7 +194,7 @@ pub extern "C" fn sam_client_snarfed(
     ensures kept { client.new.held.end ≡ client.old.held.end }
 {
     with_end!(client alloc end {
-        tell_text(runes_from(countable(end.client.overlay().end().term().snarf()), place), into, bytes, runes)
+        tell_text(runes_from(countable(end.front.client.overlay().end().term().snarf()), place), into, bytes, runes)
     })
 }
 
@@ -209,7 +210,7 @@ pub extern "C" fn sam_client_fault_place(
     ensures kept { client.new.held.end ≡ client.old.held.end }
 {
     with_end!(client alloc end {
-        tell_some(end.client.overlay().end().fault_place(), place)
+        tell_some(end.front.client.overlay().end().fault_place(), place)
     })
 }
 
@@ -224,7 +225,7 @@ pub extern "C" fn sam_client_waiting(
     ensures told { Reports client.old.held.end result runes.old runes.new (λ e. waiting_at (overlay_of e) tag) }
     ensures kept { client.new.held.end ≡ client.old.held.end }
 {
-    with_end!(client alloc end { *runes = end.client.overlay().waiting(tag); OK })
+    with_end!(client alloc end { *runes = end.front.client.overlay().waiting(tag); OK })
 }
 
 /// Hands out how many runes and gaps are shown of an open file. `SAM_NONE` if it is not open.
@@ -239,7 +240,7 @@ pub extern "C" fn sam_client_len(
     ensures kept { client.new.held.end ≡ client.old.held.end }
 {
     with_end!(client alloc end {
-        tell_some(end.client.overlay().shown_len(tag), runes)
+        tell_some(end.front.client.overlay().shown_len(tag), runes)
     })
 }
 
@@ -259,7 +260,7 @@ pub extern "C" fn sam_client_text(
         (λ e. option_map (λ text. front_runes (drop place text)) (text_of (overlay_of e) tag)) }
     ensures kept { client.new.held.end ≡ client.old.held.end }
 {
-    with_end!(client alloc end { tell_shown(end.client.overlay(), tag, place, into, bytes, runes) })
+    with_end!(client alloc end { tell_shown(end.front.client.overlay(), tag, place, into, bytes, runes) })
 }
 
 /// Puts what is shown of an open file from a place on into the buffer as numbers, as many runes and gaps as there are and have room, with
@@ -276,7 +277,7 @@ pub extern "C" fn sam_client_read(
     ensures told { ReportsCells client.old.held.end result into.old into.new count.old count.new place (λ e. text_of (overlay_of e) tag) }
     ensures kept { client.new.held.end ≡ client.old.held.end }
 {
-    with_end!(client alloc end { read_shown(end.client.overlay(), tag, place, into, count) })
+    with_end!(client alloc end { read_shown(end.front.client.overlay(), tag, place, into, count) })
 }
 
 /// Hands out the first place of what is shown of an open file, at or after `place`, whose rune is not loaded. `SAM_NONE` if the file is not
@@ -293,7 +294,7 @@ pub extern "C" fn sam_client_first_gap(
     ensures kept { client.new.held.end ≡ client.old.held.end }
 {
     with_end!(client alloc end {
-        tell_some(end.client.overlay().first_gap(tag, place), gap)
+        tell_some(end.front.client.overlay().first_gap(tag, place), gap)
     })
 }
 
@@ -309,6 +310,6 @@ pub extern "C" fn sam_client_next_waiting(
     ensures kept { client.new.held.end ≡ client.old.held.end }
 {
     with_end!(client alloc end {
-        tell_some(end.client.overlay().next_waiting(from), tag)
+        tell_some(end.front.client.overlay().next_waiting(from), tag)
     })
 }

@@ -8,6 +8,7 @@ mod client_end;
 mod client_events;
 mod client_readers;
 mod client_status;
+mod client_tasks;
 mod handle;
 mod host_calls;
 mod host_files;

@@ -39,7 +39,7 @@ pub struct SamNote {
 }
 
 /// Returns the number of why bytes are no message, or why a message is not written.
-fn fault_status(why: NoteFault) -> u32
+pub(crate) fn fault_status(why: NoteFault) -> u32
     ensures { result ≡ fault_status why }
 {
     NOTE + why as u32

@@ -60,6 +60,8 @@ pub struct SamDid {
     pub gone: u32,
     /// How many came.
     pub came: u32,
+    /// The number of the task that is answered, or that gets no answer, counted from 1 over the tasks of a client.
+    pub task: u32,
     /// The file; 0 also if the message, frame or event names none.
     pub tag: u16,
     /// The number of the kind of the message or frame.
@@ -81,6 +83,7 @@ pub(crate) fn did_nothing(step: u32) -> SamDid
         start: 0,
         gone: 0,
         came: 0,
+        task: 0,
         tag: 0,
         kind: 0,
         loads: false,

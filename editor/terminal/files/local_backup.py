@@ -30,6 +30,7 @@ LOOKS = (256, 64)  # characters beside a gap that are looked at, to find what it
 MOST_PLACES, MOST_COMPARED = 10_000, 10_000_000  # places that are looked at, and characters there; after more it is not found
 
 host: Tuple[str, ...] = ()  # the host's command
+BEHIND_HOST = "--undo"  # stands there in the number of a text: by another word what a release up to 0.1 kept here would not be found
 
 
 def loaded(terminal: ClientTerminal, tag: int) -> str:
@@ -215,7 +216,7 @@ def _number(name: str) -> str:
         place = "" if name.startswith("/") else os.getcwd()
     import hashlib  # it takes long to be read in, and few sessions need it
 
-    return hashlib.sha256("\0".join((*host, place, name)).encode("utf-8", "surrogateescape")).hexdigest()[:16]
+    return hashlib.sha256("\0".join((*host, BEHIND_HOST, place, name)).encode("utf-8", "surrogateescape")).hexdigest()[:16]
 
 
 def _own_fronts(name: str) -> Iterator[str]:

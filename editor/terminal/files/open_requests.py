@@ -25,26 +25,18 @@ class OpenRequests:
 
     def __init__(self, editor):
         self.editor, self.terminal = editor, editor.terminal
-        self._request = 0  # the number of the last one, whatever it asked for
-        self._names_of = self._open_of = 0  # that of the last one for names, and for a file
-        self.is_asking = False  # names were asked for that have not come
+        self._names_of = self._open_of = 0  # the last task for names, and for a file: its answer has this number
         self._path: Optional[str] = None  # the path that is being opened
         self._opened: Optional[int] = None  # the file of the path, once the host has told it
         self._wishes: Deque[Wished] = deque(maxlen=MOST_WISHES)
         self._asked_for: Optional[Wished] = None  # the wish for which the names were asked for
         self._goes_to: Optional[Wished] = None  # a file that is shown, until the line is gone to
 
-    def next_request(self) -> int:
-        """The number of another request; its answer repeats it."""
-        self._request += 1
-        return self._request
-
     def ask_names(self, path: str) -> None:
         """Asks for names that complete a path. The answer to the last question counts."""
-        self._names_of = self.next_request()
+        self._names_of = 0
         with contextlib.suppress(NoteFault):  # of a path that is too long nothing is known
-            self.editor.way.line.put_note(Note(NoteKind.COMPLETE, request=self._names_of, path=os.fsencode(path)))
-            self.is_asking = True
+            self._names_of = self.terminal.begin(NoteKind.COMPLETE, path)
 
     def open(self, path: str) -> bool:
         """Has the host open a file. Returns whether that is asked; else the key acts again, or can't act."""
@@ -55,9 +47,8 @@ class OpenRequests:
         if editor.is_lock_held:
             editor.act_again("waits for the host")
             return False
-        self._open_of = self.next_request()
         try:
-            editor.way.line.put_note(Note(NoteKind.OPEN, request=self._open_of, path=os.fsencode(path)))
+            self._open_of = self.terminal.begin(NoteKind.OPEN, path)
         except NoteFault:
             editor.message = "the path is too long"
             return True
@@ -68,7 +59,6 @@ class OpenRequests:
 
     def meet(self, note: Note) -> None:
         """An answer of the host, or the wish of another program."""
-        self.is_asking = self.is_asking and note.request != self._names_of
         if note.kind == NoteKind.SHOWN:
             self._wishes.append(Wished(note.tag, note.number))
         elif note.kind == NoteKind.NAMES and note.request == self._names_of and isinstance(self.editor.menu, Files):
@@ -114,8 +104,11 @@ class OpenRequests:
 
     @property
     def seconds(self) -> Optional[float]:
-        """How long until a file may come up."""
-        return max(0.0, QUIET - self.editor.quiet_for) if self._wishes else None
+        """How long until a file may come up; None where something else has to happen before."""
+        editor = self.editor
+        if not self._wishes or editor.is_lock_held or editor.way.is_late or editor.menu is not None:
+            return None
+        return max(0.0, QUIET - editor.quiet_for)
 
 
 class Files(Menu):

@@ -24,7 +24,7 @@ class Reload:
     def __init__(self, editor):
         self.editor, self.terminal = editor, editor.terminal
         self.changed: Dict[int, str] = {}  # files that another program has changed since they were read or written here; and the lines
-        self._request = 0  # the last one
+        self._task = 0  # the last one: its answer has this number
         self._tag: Optional[int] = None  # the file that is read anew
         self._anew: Optional[int] = None  # its new text, once the host has told it
         self._is_put_in = False  # that stands in the old one's place
@@ -71,8 +71,7 @@ class Reload:
         self._sure_of = tag
         if not editor.may_go_whole(tag, key):
             return False
-        self._request = editor.joining.next_request()
-        editor.way.line.put_note(Note(NoteKind.RELOAD, request=self._request, tag=tag))
+        self._task = self.terminal.begin(NoteKind.RELOAD, tag=tag)
         self._tag, self._anew, self._sure_of, self._is_put_in = tag, None, None, False
         self.terminal.offer_version(VERSION)
         editor.await_file()
@@ -80,7 +79,7 @@ class Reload:
 
     def meet(self, note: Note) -> bool:
         """An answer of the host. Returns whether it is of a file that is read anew."""
-        if self._tag is None or note.request != self._request or note.kind not in (NoteKind.ANEW, NoteKind.REFUSED):
+        if self._tag is None or note.request != self._task or note.kind not in (NoteKind.ANEW, NoteKind.REFUSED):
             return False
         if note.kind == NoteKind.ANEW and note.number in self.editor.session_files.hidden:
             self._anew = note.number

@@ -1,7 +1,7 @@
 """What became of the texts: which could not be written, which the host has saved aside, and which have to be written here."""
 import os
-from collections import Counter, deque
-from typing import Deque, Dict, List, Optional, Tuple, Union
+from collections import Counter
+from typing import Dict, List, Optional, Tuple, Union
 
 from . import local_backup
 from .backup_process import BackupProcess
@@ -36,7 +36,7 @@ class UnsavedTexts:
         # Files that the next write would replace: the name, None where it was not known yet, and what the host told.
         self._refused: Dict[int, Tuple[Optional[str], Note]] = {}
         self._changes: Counter = Counter()  # of each file
-        self._written: Dict[int, Deque[int]] = {}  # how many of them there were at each write that is not answered
+        self._written: Dict[int, Tuple[int, int]] = {}  # by task each write that is not answered: the file, and how many there were
         self._saved: Dict[int, int] = {}  # how many of them are in what the host has saved aside
         self._dropped: Dict[int, Tuple[str, str]] = {}  # names and texts of files that were dropped with open eyes, until they are saved
         self.put_off: Dict[int, bool] = {}  # files that are written when the line is back; whether the user is sure, where that is asked
@@ -46,10 +46,10 @@ class UnsavedTexts:
     def name(self, tag: int) -> str:
         return self.terminal.name(tag) or f"unnamed-{tag}"
 
-    def write(self, tag: int) -> None:
-        """The host is told to write a file."""
+    def write(self, tag: int, task: int) -> None:
+        """The host is told to write a file, by a task whose answer has this number."""
         self._refused.pop(tag, None)
-        self._written.setdefault(tag, deque()).append(self._changes[tag])
+        self._written[task] = tag, self._changes[tag]
 
     def write_later(self, tag: int, is_sure: bool) -> None:
         """A file is to be written when the line is back; the user may be sure that it replaces another program's text."""
@@ -79,7 +79,7 @@ class UnsavedTexts:
         """A message of the host about a text: whether it is written, and where a copy of it is."""
         tag, is_of_file = note.tag, note.code == NoteCode.NO_CODE and note.copy != b""
         if note.kind == NoteKind.SAVED:
-            self._answered(tag)
+            self._answered(note)
         elif note.kind == NoteKind.LOST:
             self.is_hopeless = True
             self._saved.pop(tag, None)
@@ -97,19 +97,18 @@ class UnsavedTexts:
         if note.code in REPLACING:
             self._refused[tag] = self.name(tag) if self.terminal.is_known(tag) else None, note
         if note.copy:
-            self._saved[tag] = self._answered(tag)
+            self._saved[tag] = self._answered(note)
         else:
-            self._answered(tag)
+            self._answered(note)
             self._saved.pop(tag, None)
 
     def is_being_written(self, tag: int) -> bool:
         """Whether a write of a file is not answered."""
-        return bool(self._written.get(tag)) and self.terminal.locked(tag)
+        return any(written == tag for written, _ in self._written.values()) and self.terminal.locked(tag)
 
-    def _answered(self, tag: int) -> int:
-        """The oldest write of a file is answered. Returns how many changes there were then."""
-        writes = self._written.get(tag)
-        return writes.popleft() if writes else -1
+    def _answered(self, note: Note) -> int:
+        """A write is answered. Returns how many changes there were then, -1 where this is no answer."""
+        return self._written.pop(note.request, (note.tag, -1))[1]
 
     def is_so(self, told: Union[str, Note]) -> bool:
         """Whether what was told of a file still holds: what was not written may have been since, or been read anew."""
@@ -122,7 +121,7 @@ class UnsavedTexts:
     def drop(self, tag: int) -> None:
         """The file is closed."""
         self._refused.pop(tag, None)
-        self._written.pop(tag, None)
+        self._written = {task: written for task, written in self._written.items() if written[0] != tag}
 
     def let_go(self, tag: int) -> None:
         """The user closes a file that was not written. Its text is kept until the host says that it has it."""
@@ -203,7 +202,8 @@ class UnsavedTexts:
             if not self.terminal.is_open(tag):
                 del self.put_off[tag]
             elif not self.terminal.locked(tag) and not self.terminal.command_locked:
-                self._write_put_off(tag, self.put_off.pop(tag))
+                self._write_put_off(tag, self.put_off[tag])
+                del self.put_off[tag]
 
     def _write_put_off(self, tag: int, is_sure: bool) -> None:
         """The line is back: writes a file, unless another program's text stands in it and the user doesn't know."""

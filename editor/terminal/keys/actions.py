@@ -209,8 +209,7 @@ class Actions(Commands, Moves):
             self.write(tag)
 
     def write(self, tag: int) -> None:
-        self.terminal.write(tag)
-        self.keeping.write(tag)
+        self.keeping.write(tag, self.terminal.write(tag))
 
     def write_later(self, tag: int, is_sure: bool) -> None:
         """A file is written when the line is back; the user may be sure that it replaces another program's text."""

@@ -20,6 +20,7 @@ LEAST_PIECE, PIECE = 4_096, 65_536  # bytes that are taken at once: first so man
 
 SECONDS_TO_GO = 2  # that the last bytes may take where the session stays
 LATE_AFTER = 1.0  # seconds, and two round trips, after which an answer counts as late
+SURE_AFTER = 0.1  # seconds of silence from which on the client is asked whether something is due: before that nobody goes by it
 RETRY = 0.1  # seconds until that for which the memory was too small is tried again
 MOST_EARLY = 100_000  # notes that may come before the stream begins
 MOST_LAST_LINES = 1_024  # of a connection that has ended
@@ -83,8 +84,9 @@ class PersistentSession:
         self._tells: List[str] = []  # what is to be told of connections
         self._is_named = False  # the host has said the first message
         self._is_missing = False  # no host finds the session, and that is told
-        self.expects = False  # an answer of the host is waited for
+        self.expects = False  # an answer of the host is waited for, of which the client knows nothing
         self._details, self._quiet_at = self.client.describe(self._now), 0.0
+        self._is_due: Optional[bool] = None  # whether something has to come; None where it was not looked since the line heard something
         self._due_at: Optional[float] = None  # when the line may have something to say: never later than it has
         self.client.tick(self._now)
         self._call(begin(self.name), in_front=True)
@@ -104,10 +106,16 @@ class PersistentSession:
         nothing due sooner."""
         now, was = self._now, self._details.state
         self._details = self.client.describe(now)
-        self._quiet_at = self.clock() - self._details.silence / 1000
+        self._quiet_at, self._is_due = self.clock() - self._details.silence / 1000, None
         if not (was == self._details.state == Client.OPEN and self._due_at is not None and self.clock() < self._due_at):
-            left = self.client.due_in(now)
-            self._due_at = None if left is None else (now + left) / 1000
+            self.look_at_time()
+
+    def look_at_time(self) -> None:
+        """When something is due by the clock, as the client stands: once it has gone on, what it loads next may be due sooner."""
+        now = self._now
+        left = self.client.due_in(now)
+        is_passed = left == 0 and not self._is_timed  # it is the line's, which is waited for all the same
+        self._due_at = None if left is None or is_passed else (now + left) / 1000
 
     # ---- Connections
 
@@ -174,7 +182,7 @@ class PersistentSession:
         return self.stays and not self.is_lost and (self.relay is None or not self._is_in_front or self.is_open)
 
     def expect(self, expects: bool) -> None:
-        """Notes whether an answer of the host is waited for: the line may die once it has acknowledged what was asked."""
+        """Notes whether an answer of the host is waited for that neither is one of a task nor frees a lock: those the client knows."""
         if expects != self.expects:
             self.expects = expects
             self.client.expect(expects, self._now)
@@ -184,14 +192,16 @@ class PersistentSession:
         """Does what is due by the clock; a question goes out as the client goes on."""
         if self._old:
             self._old = [relay for relay in self._old if not relay.is_over()]
-        while self._is_timed and self._due_at is not None and self.clock() >= self._due_at:
+        while self._due_at is not None and self.clock() >= self._due_at:
             why = "" if self.is_open else self._words or SILENT
-            tick = self.client.tick(self._now)
+            tick = self.client.tick(self._now) if self._is_timed else Tick.NOTHING
             self._note()
             if tick == Tick.CONNECT:
                 self.connect()
             elif tick == Tick.DROP:
                 self._break(why)
+            else:
+                return  # a load is due, for which the client asks as it goes on
 
     def _hear_network(self, ready: Dict[int, int]) -> None:
         """Where an address has gone, or one has come and there is no line, the line hears of it."""
@@ -207,7 +217,7 @@ class PersistentSession:
             return 0.0
         if self._unheard:
             return RETRY
-        return max(0.0, self._due_at - self.clock()) if self._is_timed and self._due_at is not None else None
+        return None if self._due_at is None else max(0.0, self._due_at - self.clock())
 
     # ---- Bytes
 
@@ -243,7 +253,7 @@ class PersistentSession:
             room = PIECE
 
     def put_note(self, note: Note) -> None:
-        """Sends a message, behind all that has acted. A path that is too long for one raises `SamError`, and nothing is sent."""
+        """Sends a message, behind all that has acted."""
         self.client.put_note(write_note(note), self._now)
         self._note()
 
@@ -369,8 +379,10 @@ class PersistentSession:
     @property
     def silence(self) -> float:
         """For how many seconds nothing has come, though something was due."""
-        is_quiet = self._details.state == Client.OPEN and self._details.has_all and not self.expects
-        return 0.0 if is_quiet else self.clock() - self._quiet_at
+        silence = self.clock() - self._quiet_at
+        if self._is_due is not False and silence >= SURE_AFTER:
+            self._is_due = self.client.describe(self._now).silence > 0
+        return 0.0 if self._is_due is False else silence
 
     @property
     def round_trip(self) -> float:

@@ -1,4 +1,5 @@
 """The client as the editor uses it: the texts that are shown, a selection of each, and what is asked of the host."""
+import os
 import time
 from collections import deque
 from contextlib import contextmanager, suppress
@@ -7,8 +8,8 @@ from typing import Callable, Deque, Dict, Iterator, List, Optional, Sequence, Tu
 
 from .text_copy import Edit, TextCopy
 from .texts import COMMAND, GAP, MOST_RUNES, MOST_TYPED, Change, Changes
-from sulgrevad import Client, ClientEvent, ClientEventKind, Dropped, EditRefused, EventKind, FileState, Kind, Replacement, SamError
-from sulgrevad import ShownEdit, Splice, SpliceKind, Status, Step, TerminalDid, TerminalState, TooMany, Waiting
+from sulgrevad import Client, ClientEvent, ClientEventKind, Dropped, EditRefused, EventKind, FileState, Kind, NoteKind, Replacement
+from sulgrevad import SamError, ShownEdit, Splice, SpliceKind, Status, Step, TerminalDid, TerminalState, TooMany, Waiting
 
 MOST_WAITING = 64  # edits of a free file that wait together: each costs the more the more wait
 NAMING = (Kind.HNEWNAME, Kind.HMOVNAME, Kind.HDELNAME)  # frames that change a name
@@ -55,7 +56,6 @@ class ClientTerminal:
         self.deeds = 0  # how often something was done
         self.breaks = 0  # how often nobody knew what was made of a text
         self.has_begun = False  # the host's stream has
-        self.loads: Dict[int, int] = {}  # how many runes were asked for of files that are locked since
         self._copies: Dict[int, TextCopy] = {}
         self._dots: Dict[int, Tuple[int, int]] = {}
         self._files: Dict[int, FileState] = {}  # what is known of files and of all, until something is done
@@ -63,6 +63,7 @@ class ClientTerminal:
         self._unsaved: Dict[int, bool] = {}
         self._now: Optional[TerminalState] = None
         self._asked = self._acted = 0  # the last request that was taken, and the last of those that have acted or were refused
+        self._may_write = False  # a write may wait, of which no number is known
         self._names: Dict[int, str] = {}
         self._current: Tuple[Optional[int], ...] = ()  # empty where it was not asked
         self._edits: List[ShownEdit] = []  # that came, not made in the copies yet
@@ -152,7 +153,7 @@ class ClientTerminal:
         self._forget()
         self._opened.clear()
         if self.held == 0:  # also where nobody was told of the last request
-            self._acted = self._asked
+            self._acted, self._may_write = self._asked, False
         for tag in [*self._copies]:
             length, (low, high) = self.client.len(tag) if self.is_open(tag) else 0, self.dot(tag)
             self._dots[tag] = min(low, length), min(high, length)
@@ -179,9 +180,10 @@ class ClientTerminal:
         did = event.did
         if did is not None:
             self._acted = max(self._acted, did.request)
+            self._may_write = self._may_write and self.held > 0
         if event.kind == ClientEventKind.BUSY:
             self._forget()
-        elif event.kind == ClientEventKind.NOTE:
+        elif event.kind in (ClientEventKind.NOTE, ClientEventKind.ANSWERED):
             self._notes.append(self.client.note)
         elif event.kind == ClientEventKind.STEPPED and did is not None:
             self._meet(did)
@@ -250,8 +252,6 @@ class ClientTerminal:
         self._awaited = {tag: request for tag, request in files if request > acted or self.file(tag).is_locked}
         if 0 < self._line_request <= acted and not self.state().command_locked:
             self._line_request = 0
-        if not self.is_asking:
-            self.loads = {tag: runes for tag, runes in self.loads.items() if self.file(tag).is_locked}
 
     # ---- Changes of the shown texts
 
@@ -436,19 +436,34 @@ class ClientTerminal:
         self.act()
 
     def _ask(self, kind: EventKind, tag: int = 0, start: int = 0, number: int = 0, version: int = 0, text: str = "") -> None:
-        """Asks for what is no edit. It acts at once where it can, and all that has come is done; else as this goes on."""
+        """Asks for what is no edit."""
+        self._asked = self._taken(lambda: self.client.ask(kind, tag, start, number, version=version, text=text))
+
+    def _taken(self, ask: Callable[[], int]) -> int:
+        """Has the client take something in, and returns its number. It acts at once where it can, and all that has come is done; else as
+        this goes on."""
         self._forget()
         try:
-            request = self.client.ask(kind, tag, start, number, version=version, text=text)
+            number = ask()
         except Waiting:  # memory was out between two steps of an edit
             self.act()
-            request = self.client.ask(kind, tag, start, number, version=version, text=text)
+            number = ask()
         except TooMany as why:
             raise MemoryError("too many requests wait") from why
-        self._asked = max(self._asked, request)  # a write may be one that waits already
         if self._is_level:
             with suppress(MemoryError):  # it is taken all the same
                 self.act()
+        return number
+
+    def begin(self, kind: NoteKind, path: str = "", tag: int = 0) -> int:
+        """Asks the host's program for something. Returns the number of the task, which the message has that answers it."""
+        return self._taken(lambda: self.client.begin(kind, path=os.fsencode(path), tag=tag, now=int(self.clock() * 1000)))
+
+    def write(self, tag: int) -> int:
+        """Has a file be written. Returns the same."""
+        task = self._taken(lambda: self.client.write(tag))
+        self._may_write = self.held > 0
+        return task
 
     def _ask_at_dot(self, kind: EventKind, tag: int) -> None:
         """Asks for what goes by the selection, of which the host hears first."""
@@ -468,7 +483,6 @@ class ClientTerminal:
     open = partialmethod(_ask, EventKind.OPEN)
     open_cmd = partialmethod(_ask, EventKind.OPEN_CMD)
     new_file = partialmethod(_ask, EventKind.NEW_FILE)
-    write = partialmethod(_ask, EventKind.WRITE)
     view = partialmethod(_ask, EventKind.VIEW)
     exit = partialmethod(_ask, EventKind.EXIT)
 
@@ -497,7 +511,15 @@ class ClientTerminal:
     def load(self, tag: int, place: int, length: int) -> None:
         """Asks for what is not loaded of a stretch."""
         self._ask(EventKind.LOAD, tag, place, length)
-        self.loads[tag] = self.loads.get(tag, 0) + self.gaps(tag, place, length)
+
+    def load_all(self, tag: int, first: int) -> None:
+        """Has the client load a file by itself, slice after slice, from a place on first."""
+        self._forget()
+        self.client.see(tag, first, first)
+
+    def stop_loading(self, tag: int) -> None:
+        """Has it load no more slices of a file."""
+        self.client.forget(tag)
 
     def flush(self) -> None:
         """Has what was typed in the command file sent."""
@@ -525,7 +547,7 @@ class ClientTerminal:
     @property
     def is_asking(self) -> bool:
         """Whether a request waits."""
-        return self._asked > self._acted
+        return self._asked > self._acted or self._may_write
 
     @property
     def unsent(self) -> int:
@@ -558,10 +580,6 @@ class ClientTerminal:
         if not self.is_open(tag) or tag in self._awaited or (tag == COMMAND and self.locked(tag)):
             return False
         return not self._line_request or self._works_on not in (None, tag)
-
-    def loading(self) -> Iterator[Tuple[int, int]]:
-        """The files that loads lock, and how many runes these ask for."""
-        return ((tag, runes) for tag, runes in self.loads.items() if runes > 0 and self.locked(tag))
 
     def is_known(self, tag: int) -> bool:
         return self.file(tag).is_known

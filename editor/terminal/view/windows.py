@@ -269,7 +269,8 @@ class Window:
         has_all = gap is None or gap >= layout.end
         if has_all and self._aim is None:
             self._loaded = layout
-            if self.terminal.file(self.tag).view != (layout.top, layout.top):  # an empty view asks for nothing by itself, `ask` does
+            start, end = self.terminal.file(self.tag).view
+            if start < end:  # an empty view asks for nothing by itself, `ask` does
                 self.terminal.view(self.tag, layout.top, 0)
         elif has_all or not (is_busy and layout.top <= self.caret <= gap and layout.top < gap):
             end = layout.end if self._aim is None else max(layout.end, self._aim.place)

@@ -38,7 +38,7 @@ export class Editor {
   isOver = false; // nothing can be changed any more
   message = "";
   #saidAt = 0; // when it came
-  #hidden = new Set(); // files that the host keeps for terminals
+  #hidden = new Set(); // files that are none of the user's
   #undos = new Map();
   #isLoading = false; // text is asked for that a key needs
   #hasChanged = false; // the user has changed a text since the host was known to have all
@@ -318,11 +318,18 @@ export class Editor {
   #view(tag) {
     const view = new View(this.client, tag, this.cm, this.CodeMirror.Doc("", null, 0, "\n"));
     this.views.set(tag, view);
-    this.session.document(tag).opened.catch((error) => {
+    this.#openFile(tag);
+    return view;
+  }
+
+  /** Has a file opened. Where that fails its view goes: another try makes another. */
+  async #openFile(tag) {
+    try {
+      await this.session.document(tag).opened;
+    } catch (error) {
       this.views.delete(tag);
       this.#sayWhy(error);
-    });
-    return view;
+    }
   }
 
   #putUp(view) {
@@ -350,6 +357,8 @@ export class Editor {
     this.#isUpdating = true;
     try {
       if (!this.isOver) this.#goOn();
+    } catch (error) {
+      this.#sayWhy(error);
     } finally {
       this.#isUpdating = false;
     }
@@ -363,7 +372,13 @@ export class Editor {
     const unloaded = this.active?.unloaded ?? null;
     if (unloaded !== null && !this.isComposing) this.session.see(this.active.tag, unloaded.start, unloaded.end);
     if (this.waiting.count > 0) this.#wake(READ_AFTER);
-    else if (!this.session.hasAll || this.isLate || this.session.isWaiting) this.#wake(TICK);
+    else if (this.#isLineWatched) this.#wake(TICK);
+  }
+
+  /** Whether the host owes something, by which it is seen how the line is: the rest of a load, too, for which no promise waits. */
+  get #isLineWatched() {
+    const isLocked = this.active !== null && this.client.file(this.active.tag).isLocked;
+    return isLocked || !this.session.hasAll || this.isLate || this.session.isWaiting;
   }
 
   /** The names of the files are known: opens the first one. */

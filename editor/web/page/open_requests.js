@@ -9,8 +9,8 @@ const BY_NAMES = ["Enter", "Tab", "ArrowDown", "ArrowUp"]; // keys that go by th
 const LOOK_AGAIN = 200; // milliseconds until it is seen whether the line is late, so that keys wait no longer
 
 export class Opening {
-  #question = 0; // the number of the last question for names
-  #answered = 0; // the last one that is answered
+  #wanted = ""; // the path that is typed, until its names come
+  #asking = 0; // questions for names that are not answered
   #held = []; // keys that wait for names, with all after them: so the same keys open the same file over any line
   #isReplaying = false;
   #timer = 0;
@@ -56,7 +56,7 @@ export class Opening {
   /** Whether a key goes by names that are still to come. */
   #waits({ key }) {
     const { box, editor } = this;
-    return !box.hidden && BY_NAMES.includes(key) && this.#answered !== this.#question && !editor.isOver && !editor.isLate;
+    return !box.hidden && BY_NAMES.includes(key) && this.#wanted !== "" && !editor.isOver && !editor.isLate;
   }
 
   /** Does the keys that wait, as far as names are there: each where the one before leaves the keyboard. */
@@ -115,17 +115,22 @@ export class Opening {
     this.#names = [];
     this.#hasMore = false;
     this.#chosen = 0;
-    this.#question += 1;
-    if (this.field.value && !this.editor.isOver) this.#askNames(this.#question, this.field.value);
-    else this.#answered = this.#question;
+    this.#wanted = this.editor.isOver ? "" : this.field.value;
+    this.#askNames();
     this.#draw();
   }
 
-  /** Asks the host for names that complete a path. A path that is too long has none. */
-  async #askNames(question, value) {
-    const asked = this.editor.session.ask(NoteKind.COMPLETE, { path: ENCODER.encode(value) });
+  /** Asks the host for names that complete the path that is typed. A path that is too long has none. While answers are late only one
+   * question waits: else a key that is held down would take up all that may wait, and a write would be refused. */
+  async #askNames() {
+    const wanted = this.#wanted;
+    if (wanted === "" || (this.#asking > 0 && this.editor.isLate)) return;
+    this.#asking += 1;
+    const asked = this.editor.session.ask(NoteKind.COMPLETE, { path: ENCODER.encode(wanted) });
     const { path, code } = await asked.catch(() => ({ path: new Uint8Array(0), code: NoteCode.NO_CODE }));
-    if (question === this.#question) this.#meetNames(DECODER.decode(path), code === NoteCode.HAS_MORE);
+    this.#asking -= 1;
+    if (wanted === this.#wanted) this.#meetNames(DECODER.decode(path), code === NoteCode.HAS_MORE);
+    else if (this.#asking === 0) this.#askNames();
   }
 
   #draw() {
@@ -207,7 +212,7 @@ export class Opening {
     this.#hasMore = hasMore;
     const typed = this.#entries.findIndex(({ path }) => path === this.field.value);
     if (typed >= 0 && this.#names.includes(this.field.value.slice(this.#folder.length))) this.#chosen = typed;
-    this.#answered = this.#question;
+    this.#wanted = "";
     this.#draw();
     this.#replay();
   }

@@ -35,7 +35,7 @@ static struct text copy;
     } while (0)
 
 /* `gone` runes from the place on give way to these. */
-static void change(struct text *text, uint32_t place, uint32_t gone, const uint32_t *runes, uint32_t came)
+static inline void change(struct text *text, uint32_t place, uint32_t gone, const uint32_t *runes, uint32_t came)
 {
     WANT(place + gone <= text->len && text->len - gone + came <= MOST, 1);
     memmove(text->runes + place + came, text->runes + place + gone, (text->len - place - gone) * sizeof *runes);
@@ -45,7 +45,7 @@ static void change(struct text *text, uint32_t place, uint32_t gone, const uint3
 
 /* ---- What is told ---- */
 
-static void same_as_shown(void)
+static inline void same_as_shown(void)
 {
     static uint32_t runes[MOST];
     uint32_t count = 0, len = 0;
@@ -59,7 +59,7 @@ static void same_as_shown(void)
     WANT(memcmp(runes, copy.runes, count * sizeof *runes), 0);
 }
 
-static void take_splice(const sam_splice *splice)
+static inline void take_splice(const sam_splice *splice)
 {
     static uint32_t came[MOST];
     uint32_t count = 0;
@@ -78,7 +78,7 @@ static void take_splice(const sam_splice *splice)
     change(&copy, splice->place, splice->kind == SAM_SPLICE_CAME ? 0 : splice->count, came, comes ? splice->count : 0);
 }
 
-static void hear(sam_client_event told, const sam_did *did)
+static inline void hear(sam_client_event told, const sam_did *did)
 {
     if (did->request != 0) {
         WANT(told_request < did->request && did->request <= newest_request, 1);
@@ -98,7 +98,7 @@ static void hear(sam_client_event told, const sam_did *did)
 }
 
 /* One thing is told, with its splices. */
-static sam_client_event next_event(void)
+static inline sam_client_event next_event(void)
 {
     sam_client_event told = SAM_CLIENT_WIDTH;
     sam_did did;
@@ -111,7 +111,7 @@ static sam_client_event next_event(void)
     return told;
 }
 
-static void go_on(void)
+static inline void go_on(void)
 {
     while (next_event() != SAM_CLIENT_IDLE)
         ;
@@ -119,7 +119,7 @@ static void go_on(void)
 
 /* ---- The host's program ---- */
 
-static void feed_host(const uint8_t *bytes, size_t count)
+static inline void feed_host(const uint8_t *bytes, size_t count)
 {
     sam_status status;
     while ((status = sam_host_feed(&host, bytes, count)) == SAM_NO_MEMORY)
@@ -130,7 +130,7 @@ static void feed_host(const uint8_t *bytes, size_t count)
 }
 
 /* The host answers all that its end of the link has. */
-static void host_turn(void)
+static inline void host_turn(void)
 {
     uint8_t bytes[SAM_LINK_MOST_NOTE];
     size_t len = 0;
@@ -148,7 +148,7 @@ static void host_turn(void)
 /* ---- Connections ---- */
 
 /* Moves bytes up, at most so many. Returns whether there were some. */
-static bool carry_up(size_t most)
+static inline bool carry_up(size_t most)
 {
     uint8_t piece[SAM_LINK_MOST_NOTE];
     size_t count = 0;
@@ -159,7 +159,7 @@ static bool carry_up(size_t most)
     return count > 0;
 }
 
-static bool carry_down(size_t most)
+static inline bool carry_down(size_t most)
 {
     uint8_t piece[SAM_LINK_MOST_NOTE];
     size_t count = 0;
@@ -171,7 +171,7 @@ static bool carry_down(size_t most)
 }
 
 /* What is to be done at this time, until there is nothing. Returns whether a connection is wanted. */
-static bool wants_connection(void)
+static inline bool wants_connection(void)
 {
     bool wants = false;
     for (uint32_t tick = SAM_TICK_ASK; tick != SAM_TICK_NOTHING; wants |= tick == SAM_TICK_CONNECT)
@@ -180,7 +180,7 @@ static bool wants_connection(void)
 }
 
 /* The program opens a connection, once one is wanted, and the host has its hello. */
-static void connect(void)
+static inline void connect(void)
 {
     uint8_t hello[SAM_LINK_HELLO_BYTES];
     size_t count = 0;
@@ -193,7 +193,7 @@ static void connect(void)
 }
 
 /* The connection breaks, and what it had on its way is lost: so much up, and so much down. */
-static void cut(size_t up, size_t down)
+static inline void cut(size_t up, size_t down)
 {
     uint8_t lost[SAM_LINK_MOST_NOTE];
     size_t count = 0;
@@ -205,7 +205,7 @@ static void cut(size_t up, size_t down)
 }
 
 /* All goes to the other side, and all answers come, over the connection that stands. */
-static void settle(void)
+static inline void settle(void)
 {
     go_on();
     for (bool moved = true; moved;) {
@@ -217,14 +217,14 @@ static void settle(void)
 
 /* ---- The user ---- */
 
-static sam_status ask_for(sam_event_kind kind, uint16_t tag, uint32_t start, uint32_t number)
+static inline sam_status ask_for(sam_event_kind kind, uint16_t tag, uint32_t start, uint32_t number)
 {
     sam_event event = {.kind = kind, .start = start, .number = number, .tag = tag, .version = 2};
     return sam_client_ask(&client, &event, NULL, 0, &newest_request);
 }
 
 /* The user types these runes in the place of `gone` others. */
-static void type(uint32_t place, uint32_t gone, const char *utf8, const uint32_t *runes, uint32_t came)
+static inline void type(uint32_t place, uint32_t gone, const char *utf8, const uint32_t *runes, uint32_t came)
 {
     DONE(sam_client_replace(&client, EDITED, place, place + gone, (const uint8_t *)utf8, strlen(utf8)));
     change(&copy, place, gone, runes, came);

@@ -19,6 +19,7 @@ enum {
     LONG_EDIT = 600,
     MOST_TOGETHER = 4,
     MOST_REQUESTS = 1 << 14,
+    MOST_TASKS = 1 << 10,
     KINDS = SAM_EVENT_PASTE_CMD + 1
 };
 
@@ -34,6 +35,7 @@ struct copy {
     uint64_t saved;    /* the sum of the array as it was written last, or began */
     bool is_wanted;    /* it was asked to be opened, and not to be closed */
     bool has_text;     /* its text has come since: runes that are typed before come behind it */
+    bool is_seen;      /* a window shows some of it */
     bool has_dot;      /* no edit came behind the last selection: edits that wait join, so where they meet a dot it may be on either side */
 };
 
@@ -45,13 +47,20 @@ struct front {
     uint16_t tags;
     uint64_t request, told; /* the last number that was handed out, and the last that was told */
     struct {
-        sam_event_kind kind;
+        sam_event_kind kind; /* 0 of a load that the client makes by itself */
+        uint16_t tag;
         size_t len;                     /* bytes of its text */
     } requests[MOST_REQUESTS];          /* by their numbers */
-    struct effect wanted[MOST_EFFECTS]; /* writes, and texts of closed files */
+    struct effect wanted[MOST_EFFECTS]; /* writes, each with the number of its task, and texts of closed files */
+    uint64_t wanted_by[MOST_EFFECTS];   /* the numbers of the requests for these */
     size_t wanted_count;
     uint64_t put[MOST_NOTES], heard[MOST_NOTES]; /* sums of messages */
     size_t put_count, heard_count;
+    struct task {
+        uint8_t kind;        /* of its message; 0 once it has ended */
+    } tasks[MOST_TASKS + 1]; /* by their numbers */
+    uint32_t task;           /* the last number that was handed out */
+    bool is_over;            /* another terminal has the session */
     sam_status refused[MOST_REFUSED]; /* why requests were refused, in their order */
     size_t refused_count;
 };
@@ -59,11 +68,13 @@ static struct front fronts[2];
 static struct front *front = fronts;
 
 static enum lines lines;
+static bool has_windows; /* the client loads by itself */
 static uint32_t typed_count;
 static uint16_t typed_in[MOST_TYPED]; /* of each rune that was typed the file that has it, or 0 */
 static unsigned long asked[KINDS], acted[KINDS];
 static struct meeting shared_writes = {"writes that wait already", 0}, splices_taken = {"splices", 0}, edits_told = {"edits told", 0},
-                      notes_heard = {"messages heard", 0}, untold_edits = {"edits without memory", 0},
+                      notes_heard = {"messages heard", 0}, answered = {"tasks answered", 0}, unanswered = {"tasks of a session that is over", 0},
+                      refused_tasks = {"tasks whose write is refused", 0}, own_loads = {"loads by itself", 0}, untold_edits = {"edits without memory", 0},
                       splices_together = {"splices of many steps", 0}, edits_together = {"edits in one call", 0};
 
 /* Whether all that changes a text is known. */
@@ -106,18 +117,56 @@ static void take_splice(const sam_splice *splice)
 
 /* ---- What is told ---- */
 
-/* The number of a request is told once, behind that of the request before. */
+/* The numbers up to this one that nobody was handed out are those of loads that the client makes by itself. */
+static void note_own_loads(uint64_t number)
+{
+    for (; front->request < number; own_loads.count++) {
+        front->request++;
+        front->requests[front->request % MOST_REQUESTS].kind = 0;
+        front->requests[front->request % MOST_REQUESTS].len = 0;
+    }
+}
+
+/* The number of a request is told once, behind that of the request before. Refusals of the client's own loads are not told. */
 static void hear_request(sam_client_event told, const sam_did *did)
 {
     if (planted == REQUEST_UNTOLD && one_in(50))
         return;
-    WANT(did->request, front->told + 1);
-    WANT(did->request <= front->request, 1);
-    front->told = did->request;
+    WANT(did->request > front->told, 1);
+    if (!has_windows)
+        WANT(did->request <= front->request, 1);
+    note_own_loads(did->request);
+    for (front->told++; front->told < did->request; front->told++)
+        WANT(front->requests[front->told % MOST_REQUESTS].kind, 0);
     acted[front->requests[did->request % MOST_REQUESTS].kind] += told == SAM_CLIENT_STEPPED;
 }
 
-static void hear_note(void)
+/* A task ends once: by its answer, by the refusal of its write, or because the session is over. */
+static void end_task(sam_client_event told, uint32_t number)
+{
+    WANT(number <= front->task && front->tasks[number].kind != 0, 1);
+    WANT(told == SAM_CLIENT_ANSWERED || told == SAM_CLIENT_REFUSED || (told == SAM_CLIENT_UNANSWERED && front->is_over), 1);
+    if (told == SAM_CLIENT_REFUSED)
+        WANT(front->tasks[number].kind, SAM_NOTE_WRITE);
+    front->tasks[number].kind = 0;
+    answered.count += told == SAM_CLIENT_ANSWERED;
+    unanswered.count += told == SAM_CLIENT_UNANSWERED;
+    refused_tasks.count += told == SAM_CLIENT_REFUSED;
+}
+
+/* The message is one of those that answer the task. */
+static void is_answer(const uint8_t *note, size_t len, uint32_t number)
+{
+    static const uint8_t kinds[][2] = {[SAM_NOTE_OPEN] = {SAM_NOTE_OPENED, SAM_NOTE_REFUSED},
+                                       [SAM_NOTE_COMPLETE] = {SAM_NOTE_NAMES, SAM_NOTE_REFUSED},
+                                       [SAM_NOTE_RELOAD] = {SAM_NOTE_ANEW, SAM_NOTE_REFUSED},
+                                       [SAM_NOTE_WRITE] = {SAM_NOTE_SAVED, SAM_NOTE_NOT_SAVED}};
+    const uint8_t *of_task = kinds[front->tasks[number].kind];
+    WANT(len > 5 && (note[0] == of_task[0] || note[0] == of_task[1]), 1);
+    WANT((uint32_t)note[1] << 24 | (uint32_t)note[2] << 16 | (uint32_t)note[3] << 8 | note[4], number);
+}
+
+static void hear_note(uint32_t task)
 {
     uint8_t note[SAM_LINK_MOST_NOTE];
     size_t len = 0;
@@ -125,12 +174,17 @@ static void hear_note(void)
     WANT(front->heard_count < MOST_NOTES, 1);
     notes_heard.count++;
     front->heard[front->heard_count++] = sum_of(note, len);
+    if (task != 0)
+        is_answer(note, len, task);
 }
 
 static void hear(sam_client_event told, const sam_did *did)
 {
-    if (told == SAM_CLIENT_NOTE)
-        hear_note();
+    if (told == SAM_CLIENT_NOTE || told == SAM_CLIENT_ANSWERED)
+        hear_note(did->task);
+    WANT(did->task != 0 || (told != SAM_CLIENT_ANSWERED && told != SAM_CLIENT_UNANSWERED), 1);
+    if (did->task != 0 && (planted != TASK_UNTOLD || !one_in(20)))
+        end_task(told, did->task);
     if (did->request != 0)
         hear_request(told, did);
     else if (told == SAM_CLIENT_STEPPED && did->step == SAM_STEP_ACTED)
@@ -201,6 +255,15 @@ static void go_on(void)
 
 /* ---- Requests ---- */
 
+/* The request that was taken last is this one. */
+static void note_request(const sam_event *event, size_t len)
+{
+    uint64_t at = front->request % MOST_REQUESTS;
+    front->requests[at].kind = event->kind;
+    front->requests[at].tag = event->tag;
+    front->requests[at].len = len;
+}
+
 /* Asks for something. Returns whether it is a request of its own: a write may be one that waits. */
 static bool ask(const sam_event *event, const uint8_t *text, size_t len)
 {
@@ -214,6 +277,8 @@ static bool ask(const sam_event *event, const uint8_t *text, size_t len)
     asked[event->kind]++;
     if (is_known())
         ask_local(event, text, len);
+    if (has_windows && number > front->request)
+        note_own_loads(number - 1);
     if (number <= front->request) {
         WANT(event->kind == SAM_EVENT_WRITE && number > front->told && front->requests[number % MOST_REQUESTS].kind == SAM_EVENT_WRITE, 1);
         shared_writes.count++;
@@ -221,8 +286,7 @@ static bool ask(const sam_event *event, const uint8_t *text, size_t len)
     }
     WANT(number, front->request + 1);
     front->request = number;
-    front->requests[number % MOST_REQUESTS].kind = event->kind;
-    front->requests[number % MOST_REQUESTS].len = len;
+    note_request(event, len);
     return true;
 }
 
@@ -254,7 +318,8 @@ static void note_saved(uint16_t tag)
 static void want_effect(sam_effect_kind kind, uint16_t tag)
 {
     WANT(front->wanted_count < MOST_EFFECTS, 1);
-    front->wanted[front->wanted_count++] = (struct effect){kind, tag, sum_of_text(&front->copies[tag].whole)};
+    front->wanted[front->wanted_count] = (struct effect){.kind = kind, .tag = tag, .sum = sum_of_text(&front->copies[tag].whole)};
+    front->wanted_by[front->wanted_count++] = front->request;
 }
 
 /* A file that is open, and is not asked to be closed; 0 if the one that is drawn is not, or is that of the lines. Where all is known it has
@@ -393,7 +458,7 @@ static void begin_copy(uint16_t tag)
 {
     struct copy *copy = &front->copies[tag];
     copy->shown.len = copy->whole.len = 0;
-    copy->is_wanted = copy->has_text = copy->has_dot = false;
+    copy->is_wanted = copy->has_text = copy->is_seen = copy->has_dot = false;
     note_saved(tag);
 }
 
@@ -404,6 +469,8 @@ static void begin_front(const uint8_t *id, bool takes_over)
     made->now = 1000;
     made->request = made->told = 0;
     made->wanted_count = made->put_count = made->heard_count = made->refused_count = 0;
+    made->task = 0;
+    made->is_over = false;
     for (uint16_t tag = 0; tag < MOST_FILES; tag++)
         begin_copy(tag);
     DONE(sam_client_new(&made->client, id, takes_over, made->now));

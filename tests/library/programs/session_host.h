@@ -25,6 +25,7 @@ enum planted {
     RECORDS_SWAPPED, /* a crash swaps two records */
     EFFECT_SKIPPED,  /* an effect is said to be done that was not */
     REQUEST_UNTOLD,  /* the user's program doesn't hear of a request */
+    TASK_UNTOLD,     /* nor of the end of a task */
     WRITE_UNKNOWN,   /* a file is written that nobody asked for */
     MEMORY_KEPT,     /* some memory is never given back */
     MEMORY_HOARDED,  /* much memory is held */
@@ -33,11 +34,13 @@ enum planted {
 static enum planted planted;
 static bool was_marked; /* a file was marked as dirty in this session */
 
-/* An effect that was handed out, or one that should be: the sum of the text or message. */
+/* An effect that was handed out, or one that should be: the sum of the text or message. A message that asks for something has its kind. */
 struct effect {
     sam_effect_kind kind;
     uint16_t tag;
     uint64_t sum;
+    uint8_t asks;
+    uint32_t request;
 };
 
 /* The bytes of a journal, of which the first `durable` survive a crash, and where the bodies of its records are. */
@@ -62,7 +65,8 @@ struct host_program {
 };
 static struct host_program host_programs[2];
 static struct host_program *host = host_programs;
-static struct meeting unfinished = {"turns that wait for memory", 0}, torn = {"torn journals", 0}, failed_writes = {"failed writes", 0};
+static struct meeting unfinished = {"turns that wait for memory", 0}, torn = {"torn journals", 0}, failed_writes = {"failed writes", 0},
+                      answers = {"answers", 0};
 
 /* The call is made until memory for it was there. */
 #define DONE(call)                                                                                                                         \
@@ -252,6 +256,61 @@ static void text_of_server(sam_server *server, struct text *text, uint16_t tag)
     WANT(text->len == runes && runes == all, 1);
 }
 
+/* What a message asks for, with its request and its file, by the table of docs/reference/SESSION.md. */
+static void read_message(struct effect *effect, const uint8_t *bytes, size_t len)
+{
+    bool has_tag = len == 7 && (bytes[0] == SAM_NOTE_RELOAD || bytes[0] == SAM_NOTE_WRITE),
+         has_path = len >= 7 && bytes[0] <= SAM_NOTE_COMPLETE && len == 7U + ((unsigned)bytes[5] << 8 | bytes[6]);
+    if (!has_tag && !has_path)
+        return;
+    effect->asks = bytes[0];
+    effect->request = (uint32_t)bytes[1] << 24 | (uint32_t)bytes[2] << 16 | (uint32_t)bytes[3] << 8 | bytes[4];
+    effect->tag = has_tag ? (uint16_t)(bytes[5] << 8 | bytes[6]) : 0;
+}
+
+/* The request that this write answers: of the messages that ask for writes of the file, the oldest that no write before has answered; or 0. */
+static uint32_t request_of_write(size_t write)
+{
+    const struct effect *effects = host->effects;
+    size_t asked = 0, answered = 0;
+    uint16_t tag = effects[write].tag;
+    for (size_t i = 0; i < write; i++) {
+        asked += effects[i].asks == SAM_NOTE_WRITE && effects[i].tag == tag;
+        answered += effects[i].kind == SAM_EFFECT_WRITE && effects[i].tag == tag && answered < asked;
+    }
+    for (size_t i = 0; i < write && answered < asked; i++)
+        if (effects[i].asks == SAM_NOTE_WRITE && effects[i].tag == tag && answered-- == 0)
+            return effects[i].request;
+    return 0;
+}
+
+/* The program answers a request by a message, which has some fields behind the request. */
+static void answer_request(uint8_t kind, uint32_t request, const uint8_t *fields, size_t len)
+{
+    uint8_t bytes[32] = {kind, (uint8_t)(request >> 24), (uint8_t)(request >> 16), (uint8_t)(request >> 8), (uint8_t)request};
+    memcpy(bytes + 5, fields, len);
+    TAKES(sam_server_say(&host->server, bytes, 5 + len));
+}
+
+static void answer_message(const struct effect *message)
+{
+    static const uint8_t kinds[] = {0, SAM_NOTE_OPENED, SAM_NOTE_NAMES, SAM_NOTE_ANEW}, lens[] = {0, 2, 3, 8}, none[8];
+    if (message->asks == 0 || message->asks == SAM_NOTE_WRITE)
+        return;
+    if (one_in(3))
+        answer_request(SAM_NOTE_REFUSED, message->request, none, 3);
+    else
+        answer_request(kinds[message->asks], message->request, none, lens[message->asks]);
+    answers.count++;
+}
+
+static void answer_write(uint32_t request, uint16_t tag, bool fails)
+{
+    const uint8_t fields[] = {(uint8_t)(tag >> 8), (uint8_t)tag, 0, 0, 0, 0, 0, 0, 0};
+    answer_request(fails ? SAM_NOTE_NOT_SAVED : SAM_NOTE_SAVED, request, fields, sizeof fields);
+    answers.count++;
+}
+
 /* What the effect is about. */
 static struct effect read_effect(const sam_effect *effect)
 {
@@ -270,7 +329,10 @@ static struct effect read_effect(const sam_effect *effect)
         WANT(sam_server_closed_text(&host->server, bytes, sizeof bytes, &len), SAM_OK);
         WANT(len, effect->len);
     }
-    return (struct effect){effect->kind, effect->tag, sum_of(bytes, len)};
+    struct effect read = {.kind = effect->kind, .tag = effect->tag, .sum = sum_of(bytes, len)};
+    if (effect->kind == SAM_EFFECT_HEAR)
+        read_message(&read, bytes, len);
+    return read;
 }
 
 static bool is_same_effect(const struct effect *one, const struct effect *other)
@@ -279,9 +341,10 @@ static bool is_same_effect(const struct effect *one, const struct effect *other)
 }
 
 /* The program says what became of an effect. A write may have failed, where the test looks at no marks. */
-static void end_effect(const sam_effect *effect, bool may_fail)
+static void end_effect(const sam_effect *effect, const struct effect *read, bool may_fail)
 {
     char words[24];
+    uint32_t request = effect->kind == SAM_EFFECT_WRITE ? request_of_write(host->done) : 0;
     bool fails = may_fail && effect->kind == SAM_EFFECT_WRITE && one_in(3);
     int len = snprintf(words, sizeof words, "%s %u", fails ? "failed" : "done", (unsigned)effect->tag);
     if (fails) {
@@ -289,7 +352,11 @@ static void end_effect(const sam_effect *effect, bool may_fail)
         was_marked = true;
         TAKES(sam_server_mark_dirty(&host->server, effect->tag));
     }
-    if (effect->kind == SAM_EFFECT_WRITE)
+    if (read->request != 0)
+        answer_message(read);
+    else if (request != 0)
+        answer_write(request, effect->tag, fails);
+    else if (effect->kind == SAM_EFFECT_WRITE)
         TAKES(sam_server_say(&host->server, (const uint8_t *)words, (size_t)len));
     TAKES(sam_server_effect_done(&host->server, fails));
 }
@@ -309,8 +376,8 @@ static void do_effects(bool may_fail)
         WANT(is_same_effect(&read, &host->effects[host->done]), true);
         if (one_in(5))
             return; /* a crash may come before it is done */
+        end_effect(&effect, &read, may_fail);
         host->done++;
-        end_effect(&effect, may_fail);
     }
 }
 

@@ -2,7 +2,7 @@
 #ifndef SESSION_USER_H
 #define SESSION_USER_H
 
-#include "session_front.h"
+#include "session_tasks.h"
 
 enum { CROWD = 1000, TOO_LONG = SAM_MOST_RUNES + 1, TOO_LONG_SNARF = SAM_MOST_SNARFED_BYTES + 1, TOO_LONG_TYPED = SAM_MOST_IN_TYPE + 1 };
 
@@ -54,10 +54,13 @@ static void write_file(void)
     uint16_t tag = pick_file();
     if (tag == 0)
         return;
-    bool is_own = ask_for(SAM_EVENT_WRITE, tag, 0, 0);
+    bool is_own = true;
+    uint32_t task = one_in(2) ? write_as_task(tag, &is_own) : (is_own = ask_for(SAM_EVENT_WRITE, tag, 0, 0), 0);
     note_saved(tag);
-    if (is_own && !(planted == WRITE_UNKNOWN && one_in(8)))
-        want_effect(SAM_EFFECT_WRITE, tag);
+    if (!is_own || (planted == WRITE_UNKNOWN && one_in(8)))
+        return;
+    want_effect(SAM_EFFECT_WRITE, tag);
+    front->wanted[front->wanted_count - 1].request = task;
 }
 
 /* The user closes a file for good that he has changed. The server tells what it held. */
@@ -223,6 +226,7 @@ static void put_note(void)
     uint8_t note[64];
     size_t len = 1 + pick(sizeof note - 1);
     pick_bytes(note, len);
+    note[0] |= 0x80; /* it is none that asks for something */
     DONE(sam_client_put_note(&front->client, note, len, front->now));
     WANT(front->put_count < MOST_NOTES, 1);
     notes_put.count++;
@@ -290,6 +294,7 @@ static void ask_wrongly(void)
     refuses_request(&none, NULL, 0, SAM_NONE);
     ask_for(SAM_EVENT_OPEN, NO_SUCH_FILE, 0, 0);
     ask_for(SAM_EVENT_WRITE, COMMAND_FILE, 0, 0);
+    write_wrongly();
     ask(&version, NULL, 0);
     if (lines == NO_LINES)
         ask_for(SAM_EVENT_SELECT, LINES_FILE, 0, 0);

@@ -13,13 +13,12 @@
  * as if none was. It ends with status 0; or 1 and what is wrong, or what was never met. With the number of a FAULT it is to fail
  * (session_host.h).
  */
-#include "session_user.h"
-#include "session_wire.h"
+#include "session_takeovers.h"
 
-enum { SESSIONS = 400, SEED = 90, TURNS = 200, MOST_TURNS = 4000, LEFT_TURNS = 30, LONGEST = 40000, SHORT = 2000, LOADED = 1000000 };
+enum { SESSIONS = 400, SEED = 90, TURNS = 200, MOST_TURNS = 4000, LEFT_TURNS = 30, SHORT = 2000, LOADED = 1000000 };
 enum { MOST_ANEW = 200000, MOST_FOR_A_BYTE = 24, SHORT_TURNS = 20, IN_TURN = 4, IN_A_ROW = 3 };
 
-static bool has_takeovers, has_closes, has_marks, has_joins;
+static bool has_closes, has_joins;
 static uint64_t session_seed;
 static size_t held_at_start;
 
@@ -50,7 +49,6 @@ static uint64_t pick_time(uint32_t longest)
 static void carry_on(size_t most, uint32_t longest)
 {
     go_on();
-    WANT(sam_client_expect(&front->client, !client_has_all(), front->now), SAM_OK); /* a line that dies before an answer is found so */
     pass_time(pick_time(longest));
     keep();
     do_effects(has_marks);
@@ -100,7 +98,10 @@ static void nothing_waits(void)
     WANT(sam_client_requests(&front->client, &requests), SAM_OK);
     WANT(requests, 0);
     WANT(sam_client_next_waiting(&front->client, 0, &tag), SAM_NONE);
-    WANT(front->told, front->request);
+    if (!has_windows)
+        WANT(front->told, front->request);
+    for (uint32_t number = 1; number <= front->task; number++)
+        WANT(front->tasks[number].kind, 0);
 }
 
 /* Both sides have the same name of a file. */
@@ -146,7 +147,7 @@ static void same_messages(void)
             WANT(front->heard[heard++], sum_of(journal->bytes + journal->records[i].body + 1, journal->records[i].len - 1));
     WANT(heard, front->heard_count);
     for (size_t i = 0; i < host->effect_count; i++)
-        if (host->effects[i].kind == SAM_EFFECT_HEAR)
+        if (host->effects[i].kind == SAM_EFFECT_HEAR && host->effects[i].asks != SAM_NOTE_WRITE)
             WANT(came < front->put_count && front->put[came++] == host->effects[i].sum, 1);
     WANT(came, front->put_count);
 }
@@ -162,6 +163,8 @@ static void same_effects(void)
         WANT(wanted++ < front->wanted_count, 1);
         WANT(effect->kind == should->kind && effect->tag == should->tag, 1);
         WANT(effect->sum == should->sum || !is_known(), 1);
+        if (effect->kind == SAM_EFFECT_WRITE)
+            WANT(request_of_write(i), should->request); /* its message came right before */
     }
     WANT(wanted, front->wanted_count);
 }
@@ -195,7 +198,7 @@ static void same_file(uint16_t tag)
     WANT(file.is_known == should.is_known && file.is_open == should.is_open, 1);
     if (tag == COMMAND_FILE || front->copies[tag].has_dot)
         WANT(file.dot_start == should.dot_start && file.dot_end == should.dot_end, 1);
-    WANT(file.view_start == should.view_start && file.view_end == should.view_end, 1);
+    WANT(has_windows || (file.view_start == should.view_start && file.view_end == should.view_end), 1);
     WANT(was_marked || file.is_changed == should.is_changed || (should.is_changed && is_as_saved(tag)), 1);
     WANT(sam_server_has_file(&host->server, tag, &has), SAM_OK);
     WANT(sam_host_has_file(&local_host, tag, &local_has), SAM_OK);
@@ -228,9 +231,18 @@ static void load_all(void)
             ask_for(SAM_EVENT_LOAD, tag, 0, LOADED);
 }
 
+/* All that windows show is loaded by itself, and the rest of these files. */
+static void load_seen(void)
+{
+    for (int turn = 0; turn < MOST_TURNS && !has_seen_all(); turn++)
+        carry_on(MOST_PIECE, SHORT);
+    WANT(has_seen_all(), true);
+}
+
 /* All comes to rest, is loaded, and is compared. */
 static void rest(void)
 {
+    load_seen();
     come_to_rest();
     load_all();
     come_to_rest();
@@ -246,12 +258,11 @@ static void rest(void)
 
 /* ---- What happens ---- */
 
-static struct meeting crashes = {"crashes", 0}, breaks = {"breaks", 0}, silences = {"silent connections", 0}, takeovers = {"takeovers", 0},
-                      lost_takeovers = {"takeovers that a crash undid", 0}, joins = {"files that join", 0}, marks = {"marks", 0},
-                      writes = {"writes", 0}, host_notes = {"messages of the host", 0}, exits = {"exits", 0};
+static struct meeting crashes = {"crashes", 0}, breaks = {"breaks", 0}, silences = {"silent connections", 0}, marks = {"marks", 0},
+                      joins = {"files that join", 0}, writes = {"writes", 0}, host_notes = {"messages of the host", 0},
+                      exits = {"exits", 0};
 
 static const char *const texts[] = {"", "a", "one two\nthree\n", "ba-na-na\nboom\n", "\xE6\x97\xA5\xE6\x9C\xAC \xC3\xA9\n"};
-static const char *const names[MOST_FILES] = {"", "first", "second", "lines", "third", "fourth", "fifth", "sixth"};
 
 /* The text with which a file begins: each time the same for a session. */
 static void first_text(struct text *text, uint16_t tag)
@@ -346,115 +357,6 @@ static void host_says(void)
     TAKES(sam_server_ask(&host->server));
 }
 
-/* ---- Takeovers ---- */
-
-/* The server of another session begins with this one's texts, once nothing is left to be done. */
-static void make_heir(sam_server *heir, const uint8_t *id)
-{
-    sam_status status;
-    while ((status = met(sam_server_heir(&host->server, id, heir))) != SAM_OK) {
-        WANT(status == SAM_NO_MEMORY || status == SAM_WAITING || status == SAM_SERVER_EFFECT_WAITS, 1);
-        finish_turn();
-        if (status == SAM_SERVER_EFFECT_WAITS) {
-            keep_all();
-            do_effects(has_marks);
-        }
-    }
-}
-
-/* The heir's files are these ones' names and texts, which the user's program and the editor without a network begin with. */
-static void begin_with_heir(struct host_program *old)
-{
-    uint8_t name[SAM_MOST_NAME_BYTES], other_name[sizeof name];
-    size_t tags = 0, len = 0, other_len = 0;
-    static struct text text;
-    WANT(sam_server_tags(&old->server, &tags), SAM_OK);
-    for (uint16_t tag = FIRST; tag < tags; tag++) {
-        WANT(sam_server_name(&old->server, tag, name, sizeof name, &len), SAM_OK);
-        WANT(sam_server_name(&host->server, tag, other_name, sizeof other_name, &other_len), SAM_OK);
-        WANT(len == other_len && memcmp(name, other_name, len) == 0, 1);
-        text_of_server(&old->server, &text, tag);
-        text_of_server(&host->server, &front->copies[tag].whole, tag);
-        note_saved(tag);
-        WANT(is_same_text(&text, &front->copies[tag].whole), true);
-        note_typed(text.runes, text.len, tag);
-        if (is_known())
-            join_local(names[tag], &text);
-    }
-    front->tags = (uint16_t)tags;
-}
-
-/* The terminal of the session before connects, and is told that it is over. It shows what it had. */
-static void tell_older(struct front *older)
-{
-    uint8_t hello[SAM_LINK_HELLO_BYTES], answer[SAM_LINK_HELLO_BYTES];
-    size_t count = 0;
-    uint64_t attempt = 0;
-    sam_status status;
-    for (uint32_t tick = SAM_TICK_NOTHING; tick != SAM_TICK_CONNECT; older->now += tick == SAM_TICK_NOTHING ? LONGEST : 0)
-        WANT(sam_client_tick(&older->client, older->now, &tick), SAM_OK);
-    WANT(sam_client_connected(&older->client, older->now, &attempt), SAM_OK);
-    WANT(sam_client_take_out(&older->client, attempt, hello, sizeof hello, &count), SAM_OK);
-    WANT(count, sizeof hello);
-    finish_turn();
-    while ((status = met(sam_server_accept(&host->server, hello, sizeof hello))) == SAM_NO_MEMORY)
-        ;
-    WANT(status == SAM_LINK_NO_SESSION || status == SAM_LINK_OTHER_SESSION, 1);
-    WANT(sam_link_write_refusal(status, hello, sizeof hello, answer), SAM_OK);
-    sam_status told;
-    while ((told = sam_client_receive(&older->client, attempt, answer, sizeof answer, older->now)) == SAM_NO_MEMORY)
-        ;
-    WANT(told, status);
-    struct front *newer = front;
-    front = older;
-    for (uint16_t tag = 0; tag < MOST_FILES; tag++)
-        same_as_shown(tag);
-    front = newer;
-    WANT(sam_client_free(&older->client), SAM_OK);
-}
-
-/* The heir serves from now on: its journal has the place of the old one. */
-static void serve_heir(struct host_program *other)
-{
-    struct host_program *old = host;
-    host = other;
-    keep_all();
-    if (is_known()) {
-        free_local();
-        make_local();
-    }
-    memset(typed_in, 0, sizeof typed_in);
-    begin_with_heir(old);
-    WANT(sam_server_free(&old->server), SAM_OK);
-    open_files();
-}
-
-/* Another terminal takes the texts over. A crash before the heir's journal has the place of the old one undoes that. */
-static void take_over(void)
-{
-    struct front *older = front;
-    struct host_program *other = host == host_programs ? host_programs + 1 : host_programs;
-    uint8_t id[SAM_LINK_ID_BYTES];
-    if (!has_takeovers)
-        return;
-    cut_wire();
-    pick_bytes(id, sizeof id);
-    make_heir(&other->server, id);
-    if (one_in(4)) {
-        WANT(sam_server_free(&other->server), SAM_OK);
-        lost_takeovers.count++;
-        return;
-    }
-    begin_program(other, id);
-    front = front == fronts ? fronts + 1 : fronts;
-    begin_front(id, true);
-    was_marked = false;
-    wire.has_older = false;
-    serve_heir(other);
-    tell_older(older);
-    takeovers.count++;
-}
-
 /* ---- Sessions ---- */
 
 /* A command line runs on a file while nothing else changes it, and does to the text what it does to an array. */
@@ -503,7 +405,7 @@ static const struct {
     {edit, 280},       {edit_many, 30},    {write_file, 60},   {select_runes, 60}, {look_round, 80},   {show_part, 40},
     {of_session, 16},  {type_command, 20}, {put_note, 40},     {tend_line, 16},    {edit_wrongly, 16}, {ask_wrongly, 12},
     {ask_too_much, 1}, {run, 60},          {change_files, 24}, {mark, 20},         {host_says, 24},    {break_off, 24},
-    {crash, 24},       {fall_silent, 5},   {come_late, 20},    {take_over, 6},
+    {crash, 24},       {fall_silent, 5},   {come_late, 20},    {take_over, 6},     {begin_task, 40},   {see_file, 60},
 };
 
 static void happen(void)
@@ -557,6 +459,7 @@ static void choose(uint64_t seed)
     has_takeovers = !has_closes && pick(2);
     has_marks = !has_closes && one_in(3);
     has_joins = !has_takeovers && pick(2);
+    has_windows = one_in(3);
     was_marked = false;
     typed_count = 0;
     memset(typed_in, 0, sizeof typed_in);
@@ -669,7 +572,8 @@ static bool all_met(void)
                                    lost_up,          lost_down,      untold_edits, late,        crashes,       torn,          takeovers,
                                    lost_takeovers,   joins,          marks,        writes,      failed_writes, closed,        made_files,
                                    lines_at_rest,    lines_any_time, lines_sent,   crowds,      exits,         shared_writes, splices_taken,
-                                   splices_together, edits_together, edits_told,   unfinished};
+                                   splices_together, edits_together, edits_told,   unfinished,    tasks_begun,   shared_tasks,  answers,
+                                   answered,         unanswered,     refused_tasks, windows,      own_loads};
     unsigned long missing = tell_met(rows, sizeof rows / sizeof rows[0], statuses, sizeof statuses / sizeof statuses[0]);
     for (int kind = SAM_EVENT_SELECT; kind < KINDS; kind++)
         if (acted[kind] == 0)

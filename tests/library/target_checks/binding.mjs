@@ -185,7 +185,7 @@ function checkSteps() {
   same([host.step().step, host.nextMessage(), host.text(tag)], ["idle", null, "axyzc"]);
   terminal.bring(host.takeOut());
   same(terminal.nextFrame(), { kind: 71, tag, start: 0, gone: 0, loads: false });
-  same(terminal.step(), { step: "received", kind: 71, tag, change: none, loads: false, event: 0, request: 0, why: 0 });
+  same(terminal.step(), { step: "received", kind: 71, tag, change: none, loads: false, event: 0, request: 0, task: 0, why: 0 });
   same([terminal.step().step, terminal.nextFrame()], ["idle", null]);
   terminal.openCmd();
   host.feed(terminal.takeOut());

@@ -103,7 +103,7 @@ const HANDLES = library.malloc(BigInt(HANDLES_SIZE));
 const HANDLE_OF = { host: 0, term: 32, link: 64, line: 96, overlay: 128, client: 160, server: 192, recovery: 224 };
 // That are compared: of a struct all but what fills it up.
 const OUT_BYTES = {
-  ...{ did: 48, state: 68, file: 25, note: 64, record: 32, frame: 28, details: 66 },
+  ...{ did: 52, state: 68, file: 25, note: 64, record: 32, frame: 28, details: 66 },
   ...{ splice: 14, effect: 14, changes: 48, bytes16: 16, bytes24: 24, bytes42: 42 },
 };
 let baseline = 0n; // how many requests were made when the session began

@@ -1,6 +1,6 @@
 /* What bindings/javascript promises of a client: each call where it does its work, and each refusal. The texts are worked out by hand. */
 import { library } from "../../../bindings/javascript/module.js";
-import { Client, EventKind, NoteKind, Status, Tick, memory, writeRefusal } from "../../../bindings/javascript/sulgrevad.js";
+import { Client, EventKind, NoteKind, Status, Tick, memory, readNote, writeRefusal } from "../../../bindings/javascript/sulgrevad.js";
 import { bytes, expect, joined, same, spelled, throws, throwsPlain } from "./expecting.mjs";
 import { Far } from "./far.mjs";
 
@@ -242,6 +242,65 @@ function checkManyReplacements() {
   throws("HandleFault", "NO_HANDLE", () => each([0, 0, "x"]));
 }
 
+/** What a client asks of its host's program, told once each: by an answer, by the refusal of a write, or by the session's end. */
+function checkTasks() {
+  const { client, far } = begun("hello");
+  const path = spelled("/tmp/é");
+  same(client.begin(NoteKind.OPEN, { path }, 1000), 1);
+  same([client.begin(NoteKind.RELOAD, { tag: 1 }, 1000), client.write(1), client.write(1), client.write(9)], [2, 3, 3, 4]);
+  const tells = settle(client, far);
+  const [refused] = ofKind("refused", tells);
+  same([refused.did.task, refused.did.why, far.host.saved(1)], [4, Status.REFUSAL_NO_FILE, "hello"]);
+  same(ofKind("answered", tells).map(({ did }) => did.task), [1, 3]);
+  same(readNote(client.note).kind, NoteKind.SAVED);
+  const heard = far.notes.map((note) => readNote(note));
+  same(heard.slice(0, 3).map(({ kind, request, tag }) => [kind, request, tag]), [
+    [NoteKind.OPEN, 1, 0],
+    [NoteKind.RELOAD, 2, 1],
+    [NoteKind.WRITE, 3, 1],
+  ]);
+  same([...heard[0].path], [...path]);
+  for (const note of [{ kind: NoteKind.OPENED, request: 1 }, { kind: NoteKind.ENDED }]) far.tell(note);
+  const last = settle(client, far).map(({ kind, did }) => [kind, did?.task ?? 0]);
+  same(last.slice(-3), [["note", 0], ["note", 0], ["unanswered", 2]]);
+  same(readNote(client.note).kind, NoteKind.ENDED);
+}
+
+/** A task that is refused is not begun. */
+function checkRefusedTasks() {
+  const { client } = begun("hello");
+  for (const [code, kind, fields] of [
+    ["NOTE_BAD_KIND", NoteKind.WRITE, { tag: 1 }],
+    ["NOTE_BAD_FIELD", NoteKind.OPEN, { path: spelled("a"), tag: 1 }],
+    ["NOTE_BAD_LENGTH", NoteKind.OPEN, { path: bytes(4090) }],
+    ["NOTE_BAD_PATH", NoteKind.COMPLETE, { path: bytes(1) }],
+  ]) {
+    throws("NoteFault", code, () => client.begin(kind, fields, 1000));
+  }
+  throwsPlain(TypeError, () => client.begin(NoteKind.OPEN, { path: "a" }, 1000));
+  for (let number = 1; number <= MOST_WAITING; number++) same(client.begin(NoteKind.RELOAD, { tag: 1 }, 1000), number);
+  throws("SamError", "TOO_MANY", () => client.begin(NoteKind.RELOAD, { tag: 1 }, 1000));
+  throws("SamError", "TOO_MANY", () => client.write(1));
+}
+
+/** What a window shows of a file is loaded, and then the rest, but while nobody types. */
+function checkWindows() {
+  const text = "line\n".repeat(MANY);
+  const { client, far } = begun(text, 0);
+  client.see(1, 1000, 1005);
+  client.replace(1, 0, 0, "x");
+  settle(client, far);
+  same([client.read(1, 999, 7), client.dueIn(1000)], [[null, ...text.slice(999, 1004), null], 1000]);
+  client.rest(1500);
+  same([[...client.goOn(1500)], client.dueIn(1500)], [[], 1000]);
+  client.forget(1);
+  same([[...client.goOn(2500)], client.dueIn(2500), client.firstGap(1)], [[], null, 1]);
+  client.see(1, 0, 0);
+  same(client.nextEvent(2500).kind, "busy");
+  settle(client, far);
+  same([client.text(1), client.dueIn(2500)], [`x${text}`, null]); // all in one slice
+}
+
 /** Makes edits in a text of runes, in which null stands for one that is not loaded. */
 function makeEdits(runes, edits) {
   for (const { kind, tag, place, count, text } of edits.splice(0)) {
@@ -375,6 +434,6 @@ function checkClientsMemory() {
 
 export const CLIENT_CHECKS = [
   ...[checkClientsLine, checkRefusedPieces, checkTypedUnderALock, checkClientsReaders, checkSplicesAreTakenFirst],
-  ...[checkManyReplacements, checkManyEdits, checkRoomEndsWithinAStep, checkManyLoads],
+  ...[checkManyReplacements, checkManyEdits, checkRoomEndsWithinAStep, checkManyLoads, checkTasks, checkRefusedTasks, checkWindows],
   ...[checkClientsTakenBack, checkRefusedClient, checkClientsMemory],
 ];

@@ -5,7 +5,8 @@ import { library } from "../../../bindings/javascript/module.js";
 import { bytes, expect, isError, rejection, same, throws } from "./expecting.mjs";
 import { Far } from "./far.mjs";
 
-const { Client, EventKind, NoteKind, RequestRefused, Session, SessionLost, SessionOver, Status, writeRefusal } = sulgrevad;
+const { Client, EventKind, NoMemory, NoteKind, RequestRefused, Session, SessionLost, SessionOver, Status } = sulgrevad;
+const { Unfinished, writeRefusal } = sulgrevad;
 export const ID = bytes(16, 7);
 const SECONDS = 60; // that something may take
 const BREAKS = 40;
@@ -214,8 +215,9 @@ async function checkRefusedRequests() {
   isError(await rejection(session.request(EventKind.SELECT, { tag: 1, start: 3, number: 9 })), "EditRefused", "REFUSAL_BAD_POSITION");
   isError(await rejection(session.document(9).opened), "EditRefused", "REFUSAL_NO_FILE");
   throws("EditRefused", "REFUSAL_BAD_POSITION", () => document.replace(3, 6, "x"));
-  const names = await session.ask(NoteKind.COMPLETE, { path: new TextEncoder().encode("a") });
-  same(names.kind, NoteKind.NAMES);
+  isError(await rejection(session.ask(NoteKind.SAID)), "NoteFault", "NOTE_BAD_KIND");
+  const paths = ["a", "b"].map((path) => session.ask(NoteKind.COMPLETE, { path: new TextEncoder().encode(path) }));
+  same((await Promise.all(paths)).map(({ kind, path }) => [kind, path[0]]), [[NoteKind.NAMES, 97], [NoteKind.NAMES, 98]]);
   session.tell(NoteKind.RELOADED, { tag: 1, number: 2 });
   const closing = document.close();
   isError(await rejection(document.run("1")), "Missing", "NONE");
@@ -257,20 +259,56 @@ async function checkBreaks() {
   session.leave();
 }
 
-/** A long text is loaded by itself while nobody types, and first what a window shows. */
+/** A long text is loaded by itself while nobody types, and first what a window shows; also one of which no window shows anything. */
 async function checkLoading() {
-  const net = new Net({ long: "a line of text\n".repeat(8000) });
+  const net = new Net({ long: "a line of text\n".repeat(8000), other: "x".repeat(9000) });
   const session = new Session(net.connect, { id: ID });
   const editor = new Editor(session, 1);
   const tag = await session.join("long");
   const document = session.document(tag);
   await document.opened;
-  session.see(tag, 60_000, 64_000);
+  const see = () => {
+    session.see(9, 0, 10); // another window, whose file isn't known
+    session.see(tag, 60_000, 64_000);
+  };
+  session.addEventListener("rest", see); // as a page does
+  see();
   session.noteKey(); // slices wait for a while
   await until(() => document.firstGap(60_000) !== 60_000, "what is seen is loaded");
   expect(document.firstGap() < 60_000, "what is seen is loaded last");
   await until(() => document.firstGap() === null, "the rest is loaded");
   same(editor.text === net.far.host.text(tag), true);
+  const other = session.document(await session.join("other"));
+  await other.opened;
+  await until(() => other.firstGap() === null, "a text that no window shows is loaded");
+  session.leave();
+}
+
+/** Where there is no memory to ask for the first page of a text it is loaded with the rest, and where there is none to note what is seen
+ * the text isn't opened. What a window shows is noted behind that. */
+async function checkFirstPage() {
+  const net = new Net({ first: "x".repeat(9000), second: "y".repeat(9000) });
+  const session = new Session(net.connect, { id: ID });
+  const { client } = session;
+  const [tag, other] = [await session.join("first"), await session.join("second")];
+  const refuse = () => {
+    throw new NoMemory(Status.NO_MEMORY);
+  };
+  client.see = refuse;
+  throws("NoMemory", "NO_MEMORY", () => session.document(tag));
+  delete client.see;
+  client.ask = (kind, fields) => (kind === EventKind.LOAD ? refuse() : Client.prototype.ask.call(client, kind, fields));
+  const document = session.document(tag);
+  delete client.ask;
+  await document.opened;
+  await until(() => document.firstGap() === null, "the text is loaded");
+  const seen = [];
+  client.see = (...words) => seen.push(words);
+  const shown = session.document(other);
+  session.see(other, 8000, 9000);
+  await shown.opened;
+  await until(() => shown.firstGap() !== 0, "the first page is loaded");
+  same(seen, [[other, 0, 4096], [other, 8000, 9000]]);
   session.leave();
 }
 
@@ -295,13 +333,13 @@ async function ends(told, net = new Net({ a: "hello" })) {
   const session = new Session(net.connect, { id: ID });
   const document = await session.open("a");
   net.swallows = true;
-  const waiting = document.write();
+  const waiting = [document.write(), session.ask(NoteKind.RELOAD, { tag: 1 })].map(rejection);
   const heard = [];
   session.addEventListener("over", ({ detail }) => heard.push(detail));
   net.far.tell(told);
   net.flush();
   const why = await session.over;
-  same([(await rejection(waiting)) === why, session.why === why, session.isOver], [true, true, true]);
+  same([(await Promise.all(waiting)).every((error) => error === why), session.why === why, session.isOver], [true, true, true]);
   same([heard.length, heard[0] === why, (await rejection(session.open("a"))) === why, document.text()], [1, true, true, "hello"]);
   session.leave();
   session.addressChanged();
@@ -356,6 +394,45 @@ async function checkAddressChanged() {
   session.leave();
 }
 
+/** A line is watched while a promise waits, also for what nothing but that waits for: the mark behind the answer of a write that failed. */
+async function checkWatched() {
+  const { net, session, document } = await begun({ a: "hello" });
+  const { host, link } = net.far;
+  net.far.fails = true;
+  host.markDirty = () => {}; // the mark is late
+  const told = new Promise((resolve) => session.addEventListener("note", resolve, { once: true }));
+  const refused = rejection(document.write());
+  await told;
+  await until(() => session.hasAll && !session.client.file(1).isLocked, "all else has come");
+  same([session.isWaiting, session.dueIn !== null], [true, true]);
+  delete host.markDirty;
+  host.markDirty(1);
+  link.put(host.takeOut());
+  net.flush();
+  same([(await refused) instanceof RequestRefused, session.isWaiting, session.dueIn], [true, false, null]);
+  session.leave();
+}
+
+/** While memory is out what is due is tried again after a while, and not at once for ever. */
+async function checkTries() {
+  const { net, session, editor } = await begun({ a: "hello" });
+  const { client } = session;
+  let tries = 0;
+  client.dueIn = () => 0;
+  client.nextEvent = () => {
+    tries += 1;
+    throw new Unfinished(Status.UNFINISHED);
+  };
+  editor.replace(0, 0, "typed ");
+  await pause(350);
+  delete client.dueIn;
+  delete client.nextEvent;
+  expect(tries > 0 && tries < 8, `${tries} tries within 350 ms`);
+  await until(() => session.hasAll, "the host has all");
+  same(net.far.host.text(1), "typed hello");
+  session.leave();
+}
+
 /** Memory that is out for a while loses nothing: what was taken goes on later, and a piece that wasn't comes over another connection. */
 async function checkSessionsMemory() {
   const { net, session, editor, document } = await begun({ a: "hello" });
@@ -388,6 +465,6 @@ async function checkSessionsMemory() {
 }
 
 export const SESSION_CHECKS = [
-  ...[checkSession, checkWrites, checkRuns, checkRefusedRequests, checkBreaks, checkLoading, checkDropped],
-  ...[checkEnds, checkClose, checkAddressChanged, checkSessionsMemory],
+  ...[checkSession, checkWrites, checkRuns, checkRefusedRequests, checkBreaks, checkLoading, checkFirstPage, checkDropped],
+  ...[checkEnds, checkClose, checkAddressChanged, checkWatched, checkTries, checkSessionsMemory],
 ];

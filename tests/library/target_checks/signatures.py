@@ -14,7 +14,7 @@ LONG = ("u64", "size")  # those of 64 bits
 ARRAYS = {"SAM_LINK_ID_BYTES": 16, "SAM_LINK_HELLO_BYTES": 42, "SAM_JOURNAL_HEAD_BYTES": 24}
 # Bytes that are compared of what is handed out: of a struct all but those that fill it up.
 OUT = {
-    "did": 48, "state": 68, "file": 25, "note": 64, "record": 32, "frame": 28, "details": 66, "splice": 14, "effect": 14, "changes": 48,
+    "did": 52, "state": 68, "file": 25, "note": 64, "record": 32, "frame": 28, "details": 66, "splice": 14, "effect": 14, "changes": 48,
     "bytes16": 16, "bytes24": 24, "bytes42": 42,
 }
 OUT_ELSE = 8

@@ -18,7 +18,7 @@ WAYS = (
 
 
 def check_open(folder):
-    """A file opens with its text, its name and its filetype, unmodified, and undo takes nothing of it away."""
+    """A file opens with its text, its name and its filetype, unmodified, and undo takes nothing of it away. It isn't here while locked."""
     with Place(folder) as place:
         neovim = place.opened("notes.lua", TEXT)
         expect_equal(neovim.text, TEXT)
@@ -27,6 +27,15 @@ def check_open(folder):
         expect_equal(neovim.lua("return {vim.bo.buftype, vim.bo.filetype, vim.bo.modified}"), ["acwrite", "lua", False])
         neovim.keys("u")
         expect_equal(neovim.text, TEXT)
+        expect_equal(neovim.lua("vim.cmd 'SulgrevadRun ,p'" + IS_HERE), False)
+        neovim.wait_settled()
+        expect_equal(neovim.lua(IS_HERE), True)
+
+
+IS_HERE = """
+local file = require("sulgrevad").files[vim.api.nvim_get_current_buf()]
+return file.session:is_here(file.tag)
+"""
 
 
 def check_ways(folder):
@@ -118,9 +127,9 @@ def check_drift(folder):
 # Changes the first line, and has the plugin pass the event over.
 UNTOLD = """
 local file = require("sulgrevad").files[vim.api.nvim_get_current_buf()]
-file.marks = {}
+file.is_changing = true
 vim.api.nvim_buf_set_lines(0, 0, 1, true, { ... })
-file.marks, file.tick = nil, vim.api.nvim_buf_get_changedtick(0)
+file.is_changing, file.tick = nil, vim.api.nvim_buf_get_changedtick(0)
 """
 
 
@@ -148,7 +157,7 @@ def check_too_long(folder):
         neovim = place.opened("notes.txt", "one\n")
         neovim.lua("vim.api.nvim_buf_set_lines(0, 0, 0, true, {('x'):rep(1000000)})")
         neovim.wait_told("is not at the host as it is here")
-        neovim.command("write")
+        expect(neovim.lua("vim.cmd 'write' return vim.bo.modified"), "for :w|q the buffer counts as written")
         neovim.wait_told("is not written")
         expect_equal(len(neovim.text), 1_000_005)
         expect(neovim.lua("return vim.bo.modified"), "the buffer counts as written")

@@ -62,6 +62,26 @@ def check_failed_write(folder):
         expect_equal(place.host.read("gone/notes.txt"), "onex\n")
 
 
+def check_end_in_write(folder):
+    """Where an error ends the session within a write, :w says so, the buffer stays modified, and :w NAME writes its text here."""
+    with Place(folder) as place:
+        neovim = place.opened("notes.txt", "one\n")
+        neovim.keys("Ax<Esc>")
+        neovim.wait_settled()
+        told, is_modified = neovim.lua(END_IN_WRITE)
+        expect("not written" in told and "no memory" in told and is_modified, f"{told!r}, modified: {is_modified}")
+        expect_equal(place.host.read("notes.txt"), "one\n")
+        neovim.command("write! here.txt")
+        expect_equal((neovim.folder / "here.txt").read_text(), "onex\n")
+
+
+END_IN_WRITE = """
+require("sulgrevad").files[vim.api.nvim_get_current_buf()].session.advance = function() error "no memory" end
+vim.cmd "silent! write"
+return { vim.v.errmsg, vim.bo.modified }
+"""
+
+
 # Whether each write is answered.
 ANSWERED = "(function() for _, file in pairs(require('sulgrevad').files) do if file.writing then return false end end return true end)()"
 

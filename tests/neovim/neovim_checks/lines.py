@@ -37,9 +37,25 @@ def check_run(folder):
         neovim.command("SulgrevadRun $a/日%s/" % ("é" * 700))
         neovim.wait_settled()
         expect_equal(place.expect_same(neovim, "notes.txt"), "long B\nb long\nc\n日%s" % ("é" * 700) + "\n")
+        neovim.command("messages clear")
+        neovim.lua("vim.cmd 'SulgrevadRun 4p'; vim.cmd 'SulgrevadRun 2p'")
+        neovim.wait_told("é" * 700 + "\nsulgrevad: b long")  # the first is loaded while the second comes
 
 
 CURSORS = "return vim.tbl_map(vim.api.nvim_win_get_cursor, vim.api.nvim_list_wins())"
+
+
+def check_zeros(folder):
+    """U+0000 is a character like any other: for edits behind it, for the places of command lines, and in what these print."""
+    with Place(folder) as place:
+        neovim = place.opened("notes.txt", "one\ntwo\nthree\n")
+        neovim.keys("A<C-v>000x<Esc>jj0cwlast<Esc>kdd")
+        expect_equal(place.expect_same(neovim, "notes.txt"), "one\0x\nlast\n")
+        neovim.command("2SulgrevadRun c/end\\n/")
+        neovim.wait_settled()
+        expect_equal(place.expect_same(neovim, "notes.txt"), "one\0x\nend\n")
+        neovim.command("1SulgrevadRun p")
+        neovim.wait_told("one^@x")
 
 
 def check_typing(folder):
@@ -126,10 +142,9 @@ def check_one_step(folder):
 
 # Has the session of the current buffer load nothing more, or go on with that.
 LOADING = """
-local session = require("sulgrevad").files[vim.api.nvim_get_current_buf()].session
-local goes_on = ...
-session.is_loaded = not goes_on and function() return false end or nil
-session:go_on()
+local file = require("sulgrevad").files[vim.api.nvim_get_current_buf()]
+if ... then file.session:must("see", file.tag, 0, 1000000) else file.session:must("forget", file.tag) end
+file.session:go_on()
 """
 HOLES = "#require('sulgrevad').files[vim.api.nvim_get_current_buf()].holes"
 
@@ -175,7 +190,7 @@ def lost_and_edited(place):
     neovim = place.opened("notes.txt", "one\n")
     place.host.dead.touch()
     place.cut(neovim)
-    neovim.wait("require('sulgrevad').status():find('LINE LOST') ~= nil")
+    neovim.wait("require('sulgrevad').status(0):find('LINE LOST') ~= nil")
     neovim.keys("Ax<Esc>")
     return neovim
 

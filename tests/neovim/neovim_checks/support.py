@@ -202,8 +202,11 @@ class Place:
         neovim.wait("vim.bo.modifiable and vim.bo.buftype == 'acwrite'")
 
     def line(self, neovim):
-        """The process that carries the bytes of the first session, or None."""
-        return neovim.lua("for _, s in pairs(require('sulgrevad').sessions) do return s.line.process and s.line.process:get_pid() end")
+        """The process that carries the bytes of the first session, or None: it may have ended just now."""
+        return neovim.lua(
+            "for _, s in pairs(require('sulgrevad').sessions) do"
+            " local is_there, process = pcall(vim.fn.jobpid, s.line.job or 0) return is_there and process or nil end"
+        )
 
     def cut(self, neovim):
         """Cuts the line: what carries its bytes is killed."""

@@ -1,5 +1,5 @@
--- Random texts and edits through text.lua, holes.lua and file.lua. Returns a list of what is wrong.
-local text, holes, files = require "sulgrevad.text", require "sulgrevad.holes", require "sulgrevad.file"
+-- Random texts and edits through text.lua and file.lua. Returns a list of what is wrong.
+local text, files = require "sulgrevad.text", require "sulgrevad.file"
 
 local SIGNS = { "a", "b", "word ", "\n", "\n", "é", "日", "\0", "\r", "😀", "c", "\255" }
 local wrong = {}
@@ -15,9 +15,15 @@ local function expect(is_right, ...)
   if not is_right and #wrong < 5 then wrong[#wrong + 1] = vim.inspect { ... } end
 end
 
+local function runes_of(words)
+  local runes = {}
+  for rune in words:gmatch "[^\128-\191][\128-\191]*" do runes[#runes + 1] = rune end
+  return runes
+end
+
 -- Differences turn the old text into the new one, by bytes as by runes.
 local function made_by_runes(old, changes)
-  local runes = vim.fn.split(old, "\\zs")
+  local runes = runes_of(old)
   for n = #changes, 1, -1 do
     local change = changes[n]
     runes = vim.list_extend(vim.list_slice(runes, 1, change.start), { change.text, unpack(vim.list_slice(runes, change.last + 1)) })
@@ -34,7 +40,6 @@ for _ = 1, 3000 do
     at = change.to
   end
   expect(table.concat(made) .. old:sub(at + 1) == new, "differences", old, new)
-  old, new = old:gsub("[%z\r\255]", ""), new:gsub("[%z\r\255]", "")
   expect(made_by_runes(old, text.differences(old, new)) == new, "differences by runes", old, new)
 end
 
@@ -62,44 +67,66 @@ for _ = 1, 1000 do
   expect(file:text() == shown, "become", shown, file:text())
 end
 for _ = 1, 3000 do
-  local old, new = random_text(12, 7), random_text(3, 7)
+  local old, new = random_text(12, 8), random_text(3, 8)
   file:become(old)
-  file.same = old
-  file:agree()
-  local runes = vim.fn.split(old, "\\zs")
+  local runes = runes_of(old)
   local place = math.random(0, #runes)
   local gone = math.random(0, #runes - place)
   local wanted = table.concat(runes, "", 1, place) .. new .. table.concat(runes, "", place + gone + 1)
-  vim.bo[buf].modifiable = true
-  file:put(place, gone, new)
-  expect(file:text() == wanted, "put", old, place, gone, new, file:text())
+  file:become(wanted)
+  expect(file:text() == wanted, "a change", old, place, gone, new, file:text())
   expect(file:place_of(0, 0) == 0, "the first place")
+  local size = text.size(wanted, place + #runes_of(new))
+  expect(size == #table.concat(runes, "", 1, place) + #new, "the size of runes", wanted, place, size)
+  local row, column = file:spot(size)
+  expect(file:place_of(row, column) == place + #runes_of(new), "the place of a spot", wanted, place, row, column)
 end
 
--- Holes follow changes of a text, of which a list of letters is the model: "." is not loaded.
-local function loaded_before(cells, place)
-  local count = 0
-  for n = 1, place do count = count + (cells[n] == "." and 0 or 1) end
-  return count
+-- Holes part a shown text, in which "." is not loaded. Edits leave those round them, also one of many that is refused.
+local shown, taken
+local reads = 0
+
+function session:put_edit() end
+
+function session:try(_, _, start, last, came)
+  taken = taken - 1
+  if taken < 0 then return 1 end
+  shown = shown:sub(1, start) .. came .. shown:sub(last + 1)
+  return 0
 end
+
+function session:shown()
+  reads = reads + 1
+  local holes = {}
+  for place, hole in shown:gmatch "()(%.+)" do table.insert(holes, { place = place - 1, count = #hole }) end
+  return (shown:gsub("%.", "")), holes
+end
+
+local function behind(loaded)
+  local place = 0
+  for _ = 1, loaded do place = shown:find("[^.]", place + 1) end
+  return place
+end
+
 for _ = 1, 3000 do
-  local cells, found = {}, {}
-  for n = 1, math.random(0, 10) do cells[n] = "x" end
-  for _ = 1, math.random(1, 8) do
-    local place = math.random(0, #cells)
-    local gone, came = math.random(0, math.min(3, #cells - place)), math.random(0, 3)
-    local sign, seen = math.random() < 0.5 and "." or "x", loaded_before(cells, place + gone) - loaded_before(cells, place)
-    for _ = 1, gone do table.remove(cells, place + 1) end
-    for _ = 1, came do table.insert(cells, place + 1, sign) end
-    expect(holes.follow(found, place, gone, came) == seen, "what went", cells, place, gone, came)
-    if sign == "." and came > 0 then holes.add(found, place, came) end
-    for n = 0, #cells do
-      local here = holes.in_buffer(found, n)
-      expect(here == loaded_before(cells, n), "in the buffer", cells, n, found)
-      expect(loaded_before(cells, holes.in_shown(found, here)) == here, "in the shown text", cells, n, found)
-      expect(cells[n] == "." or cells[n + 1] == "." or holes.in_shown(found, here) == n, "there and back", cells, n, found)
-    end
+  shown = random_text(20, 5):gsub("[ab]", function() return math.random() < 0.4 and ".." or nil end)
+  file.same, file.holes = session:shown()
+  for loaded = 0, #file.same do expect(file:shown_place(loaded) == behind(loaded), "a place in a text with holes", shown, loaded) end
+  local before, new = shown, file.same:gsub("[ab\n]", function() return math.random() < 0.3 and "xy" or nil end)
+  local changes, most = text.differences(file.same, new, true), math.random(0, 9)
+  for n = math.min(#changes, most), 1, -1 do
+    local change = changes[n]
+    local start, last = behind(change.start), behind(change.last)
+    if start < last then start = behind(change.start + 1) - 1 end
+    shown = shown:sub(1, start) .. change.text .. shown:sub(last + 1)
   end
+  local wanted = shown
+  shown, reads, taken = before, 0, most
+  local refusal = file:replace(0, file.same, new)
+  expect(shown == wanted and refusal == (#changes > most and 1 or nil), "edits round holes", before, new, shown, wanted)
+  expect(reads <= 1, "the text is read more than once", before, new, reads)
+  local same, holes = session:shown()
+  expect(file.same == same and vim.deep_equal(file.holes, holes), "what is noted of holes", file.same, file.holes, shown)
 end
 
 return wrong

@@ -112,10 +112,14 @@ def check_gaps(folder):
         with session.stopped_host():
             session.keys("C-End")
             session.wait_for("░░░░░")
-        wait_until(lambda: not session.shows("░"), "the shade never fills")
-        rows = session.rows("a.txt")
-        expect("line 79999" in rows and all(re.fullmatch(r"(line \d+)?", row) for row in rows), f"rows {rows}")
-        session.leave()
+
+        def is_filled():
+            rows = session.rows("a.txt")
+            return "line 79999" in rows and all(re.fullmatch(r"(line \d+)?", row) for row in rows)
+
+        wait_until(is_filled, lambda: f"the shade never fills: rows {session.rows('a.txt')}")
+        session.keys("C-q")  # the rest of the text would take minutes to come: he leaves while it does
+        session.wait_for_end(0)
 
 
 def check_status_line(folder):

@@ -22,7 +22,7 @@ def check_new_file(folder):
         session.type("second")
         session.keys("C-w")
         session.wait_for("not written: ")
-        aside = folder / "unnamed-3.sam-saved"
+        aside = folder / "unnamed-2.sam-saved"
         wait_for_text(aside, "second")
         session.command("f other.txt")
         session.wait_for("other.txt")

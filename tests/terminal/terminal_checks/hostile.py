@@ -206,8 +206,8 @@ def check_host_of_another_version(folder):
 
 def check_files_of_names_that_are_ours(folder):
     """A file of the user's is one of his, though it has the name of a hidden one."""
-    names = [f"~~{name}" for name in ("left~~ 1 + 2026-11-29 10:00:00", "anew~~ 1", "undo~~", "sam~~")]
-    pair = Pair(random.Random(1), ["a\n", "b\n", "c\n", "d\n"], names=names)
+    names = [f"~~{name}" for name in ("left~~ 1 + 2026-11-29 10:00:00", "anew~~ 1", "sam~~")]
+    pair = Pair(random.Random(1), ["a\n", "b\n", "c\n"], names=names)
     pair.finish()
     editor = pair.editor
     expect([editor.name(tag) for tag in editor.tags] == names, f"the files are {[editor.name(tag) for tag in editor.tags]}")
@@ -438,7 +438,7 @@ def check_names_are_no_commands(folder):
 
     for command, count in (("ssh box samhost", 1), ("/usr/bin/ssh -p 22 box sudo samhost", 1), ("ssh a ssh b samhost", 2), ("samhost", 0)):
         expect(shells_of(command.split()) == count, f"{command}: {shells_of(command.split())} shells")
-    expect(for_shells(["~/a b", "~", "--undo"], 1) == ["~/'a b'", "'~'", "--undo"], f"{for_shells(['~/a b', '~', '--undo'], 1)}")
+    expect(for_shells(["~/a b", "~", "--left"], 1) == ["~/'a b'", "'~'", "--left"], f"{for_shells(['~/a b', '~', '--left'], 1)}")
     ssh = folder / "ssh"
     ssh.write_text('#!/bin/sh\nshift\nexec sh -c "$*"\n')
     ssh.chmod(0o755)

@@ -72,11 +72,9 @@ class Served:
     def take(self, data):
         self.link.feed(self.link.attempt, data)
         CAME.write_text(str(self.link.received))
-        while data := self.link.take_in():
-            self.has_heard = True
+        while (data := self.link.take_in()) or self.link.next_note() is not None:
+            self.has_heard = self.has_heard or data != b""
             self.host.feed(data)
-        while self.link.next_note() is not None:
-            pass
         if data := self.host.take_out():
             self.link.put(data)
 

@@ -9,7 +9,7 @@ from pathlib import Path
 from checks import Failed, Skipped, expect_equal, times_longer
 
 from .key_times import LINE, LINES, PACE, ROW, WORDS, after_the_start, of_words, until_all_is_loaded
-from .pairs import LONG, Line, Pair, loads_of, opened
+from .pairs import LONG, Ends, Line, Pair, loads_of, opened
 from .stalled_line import RUNES, OnTerminal, share_of
 from .support import expect
 
@@ -20,11 +20,38 @@ TEXTS = (
 )
 KEYS = ("x", "yz", "\n", "\n", "\n\n", "a\nb", "日", "e\u0301", "\t", "Backspace", "Backspace", "Backspace")
 OTHERS = ("Left", "^Z", "Down", "Home")
+A_SLICE = 10_000  # bytes of the host at once that are those of a slice
+
+
+class LinkEnds(Ends):
+    """The same, whose bytes are those of the link itself, with all that the two ends say of it."""
+
+    def __init__(self):
+        super().__init__()
+        self.answers = []  # when the host said something, and how many bytes
+
+    def sent(self):
+        return b"".join(iter(lambda: self.client.take_out(self.attempt), b""))
+
+    def bring(self, data):
+        self.client.receive(self.attempt, data, int(self.pair.now * 1000))
+
+    def served(self, data):
+        """What the host says to bytes of the terminal."""
+        self.link.feed(self.attempt, data)
+        while (came := self.link.take_in()) or self._takes_note():
+            self.pair.host.feed(came)
+        if data := self.pair.host.take_out():
+            self.answers.append((self.pair.now, len(data)))
+            self.link.put(data)
+        return b"".join(iter(lambda: self.link.take_out(self.attempt), b""))
 
 
 def slow(*texts, size=(20, 80), speed=1_000_000, each_way=0.3, seed=1):
     """A pair in a session that stays, over a line that carries so many bytes a second, so many seconds each way, by a clock of its own."""
-    pair = Pair(random.Random(seed), texts)
+    ends = LinkEnds()
+    pair = Pair(random.Random(seed), texts, ends=ends)
+    ends.pair = pair
     pair.editor.arrange(*size)
     line = pair.take_line(Line())
     line.round_trip = 2 * each_way
@@ -39,7 +66,7 @@ def run_until(pair, when):
         if pair.up:
             pair.coming.append((pair.now + pair.each_way, "up", bytes(pair.up)))
             pair.up.clear()
-        wakes = pair.editor.wakes_in()
+        wakes = pair.wakes_in()
         due = [at for at, _, _ in pair.coming] + ([pair.now + max(wakes, 0.001)] if wakes is not None else [])
         if not due or min(due) > when:
             pair.now = max(pair.now, when)
@@ -49,8 +76,7 @@ def run_until(pair, when):
         for item in [item for item in pair.coming if item[0] <= pair.now]:
             pair.coming.remove(item)
             if item[1] == "up":
-                pair.host.feed(item[2])
-                data = pair.host.take_out()
+                data = pair.ends.served(item[2])
                 for start in range(0, len(data), 16_384):
                     piece = data[start : start + 16_384]
                     pair.free_at = max(pair.free_at, pair.now) + len(piece) / pair.speed
@@ -114,23 +140,22 @@ def check_whole_file_at_rest(folder):
     text = "".join(f"{at:05} the quick brown fox jumps over the lazy dog and runs away from it\n" for at in range(12_000))
     for speed, most in ((1_000_000, 3.0), (100_000, 20.0)):
         pair = slow(text, speed=speed)
-        loads = loads_of(pair)
         until_text(pair)
         start = pair.now
         while pair.terminal.first_gap(1) is not None:
             run_until(pair, pair.now + 0.05)
-            expect(pair.now - start <= most, f"at {speed} bytes a second it takes more than {most} s: {loads}")
-        longest = max(count for _, _, count in loads) / speed
-        expect(longest < 1.3, f"at {speed} bytes a second a slice takes {longest} s: {loads}")
+            expect(pair.now - start <= most, f"at {speed} bytes a second it takes more than {most} s: {pair.ends.answers}")
+        longest = max(count for _, count in pair.ends.answers) / speed
+        expect(longest < 1.3, f"at {speed} bytes a second a slice takes {longest} s: {pair.ends.answers}")
     pair = slow(text, speed=200_000)
     until_text(pair)
     run_until(pair, pair.now + 3)
     pair.editor.take(pair.keys.Key("Down"))
-    pressed, loads = pair.now, loads_of(pair)
-    run_until(pair, pressed + 1.9)
-    expect(not loads, f"a slice begins right after a key: {loads}")
+    pressed = pair.now
     run_until(pair, pressed + 8)
-    expect(len(loads) > 1, f"it loads no more: {loads}")
+    begun = [when - pair.each_way for when, count in pair.ends.answers if count > A_SLICE and when - pair.each_way > pressed]
+    expect(min(begun) > pressed + 1.9, f"a slice begins right after a key, at {pressed}: {begun}")
+    expect(len(begun) > 1, f"it loads no more: {begun}")
 
 
 def check_words_meet_no_lock(folder):

@@ -174,7 +174,7 @@ def check_enter_of_a_menu_in_a_short_break(folder):
         expect("the line is back" in editor.message, f"{keys}: it tells {editor.message!r}")
         line.is_broken = False
         pair.finish()
-        opened_paths = [note.path for note in line.notes if note.kind == NoteKind.OPEN]
+        opened_paths = [note.path for note in pair.ends.notes if note.kind == NoteKind.OPEN]
         expect(opened_paths == ([b"two.txt"] if tag is None else []), f"{keys}: it opens {opened_paths}")
         expect(tag is None or editor.active.tag == tag, f"{keys}: it shows {editor.active.tag}")
 
@@ -221,5 +221,5 @@ def check_enter_of_a_menu_on_a_lost_line(folder):
             expect(editor.menu is None and not editor.deferred, f"Esc waits: {editor.deferred}")
         line.is_broken = False
         pair.finish()
-        opened_paths = [note.path for note in line.notes if note.kind == NoteKind.OPEN]
+        opened_paths = [note.path for note in pair.ends.notes if note.kind == NoteKind.OPEN]
         expect(opened_paths == ([] if is_refused else [b"two.txt"]), f"after {seconds} s it opens {opened_paths}")

@@ -1,4 +1,5 @@
 """That nothing is lost: what was cut, another program's text, and what earlier sessions left; and what goes on without a host."""
+import hashlib
 import os
 import signal
 import time
@@ -403,14 +404,15 @@ def check_left_is_compared(folder):
 
 
 def check_left_of_another_host(folder):
-    """What was written here of one host's file is not offered for another's that has the same name; and for its own also from elsewhere."""
+    """What was written here of one host's file is not offered for another's that has the same name; and for its own also from elsewhere.
+    So is what an earlier release has written."""
     from terminal.files import local_backup
 
     (folder / "one").mkdir()
     (folder / "two").mkdir()
     os.environ["XDG_STATE_HOME"] = str(folder / STATE)
     os.chdir(folder / "one")
-    local_backup.host = ("ssh", "first", "samhost", "--undo")
+    local_backup.host = ("ssh", "first", "samhost")
 
     def left(*names):
         return list(local_backup.left(names).values())
@@ -423,14 +425,18 @@ def check_left_of_another_host(folder):
     os.chdir(folder / "two")
     expect(left("a.txt", "/there/b.txt") == [[], [whole]], "it is not found from elsewhere, or another a.txt's is")
     os.chdir(folder / "one")
-    local_backup.host = ("ssh", "second", "samhost", "--undo")
+    local_backup.host = ("ssh", "second", "samhost")
     expect(left("a.txt", "/there/b.txt") == [[], []], "it is taken for another host's")
-    local_backup.host = ("ssh", "first", "samhost", "--undo")
+    local_backup.host = ("ssh", "first", "samhost")
     for path in (relative, whole):
         os.unlink(path)
     expect(left("a.txt", "/there/b.txt") == [[], []], "it is found though it is gone")
     links = list((folder / STATE / "sulgrevad").iterdir())
     expect(not links, f"there are {links}")
+    words = ("ssh", "first", "samhost", "--undo", "", "/there/d.txt")  # the release 0.1 ran that command
+    earlier = folder / STATE / "sulgrevad" / f"{hashlib.sha256(chr(0).join(words).encode()).hexdigest()[:16]}-d.txt.sam-here"
+    earlier.write_text("earlier")
+    expect(left("/there/d.txt") == [[str(earlier)]], "what an earlier release has written is not found")
 
 
 def check_leaving_is_asked_once(folder):

@@ -4,6 +4,7 @@ from types import SimpleNamespace
 
 from .messages import saved
 from .support import Failed, expect
+from sulgrevad import NoteKind, read_note, write_note
 
 
 class Ends:
@@ -16,6 +17,7 @@ class Ends:
         self.client, self.link = sulgrevad.Client(bytes(16), False, 0), sulgrevad.Link(sulgrevad.Link.HOST, bytes(16))
         self.attempt = self.client.connected(0)
         self.link.answer(self.client.take_out(self.attempt, sulgrevad.HELLO_BYTES))
+        self.notes, self.writes = [], []  # what came for the host's program, and the requests among that for writes
         self._carry()
 
     def _carry(self):
@@ -30,7 +32,26 @@ class Ends:
         while data := self.client.take_out(self.attempt):
             self.link.feed(self.attempt, data)
         self._carry()
-        return b"".join(iter(self.link.take_in, b""))
+        pieces = []
+        while (piece := self.link.take_in()) or self._takes_note():
+            pieces.append(piece)
+        return b"".join(pieces)
+
+    def _takes_note(self):
+        """Whether a message of the terminal is next, which this takes."""
+        data = self.link.next_note()
+        if data is not None:
+            self.notes.append(note := read_note(data))
+            if note.kind == NoteKind.WRITE:
+                self.writes.append(note)
+        return data is not None
+
+    def answer_write(self, note):
+        """Tells the terminal what became of a write."""
+        asked = next(asked for asked in self.writes if asked.tag == note.tag)
+        self.writes.remove(asked)
+        self.link.put_note(write_note(note._replace(request=asked.request)))
+        self._carry()
 
 
 class Line:
@@ -76,7 +97,7 @@ class Pair:
     LINES = (",x/a/c/bb/", ",d", "2", "/b/", "#3,$", "f name", "nonsense")
     SIZES = ((22, 80), (8, 20), (5, 7), (60, 200))
 
-    def __init__(self, random_numbers, texts, names=None, key_set="sam"):
+    def __init__(self, random_numbers, texts, names=None, key_set="sam", ends=None):
         import sulgrevad
         from terminal.editor import Editor
         from terminal.keys import bindings
@@ -86,14 +107,16 @@ class Pair:
 
         self.random, self.keys, self.screen, self.gap = random_numbers, bindings, screen, GAP
         self.failing, self.written = [], []  # what the host tells of the next writes that fail; and the files that it was told to write
-        self.host, self.ends, self.now = sulgrevad.Host(), Ends(), 0.0
+        self.host, self.ends, self.now = sulgrevad.Host(), ends or Ends(), 0.0
         self.terminal = ClientTerminal(self.ends.client, clock=lambda: self.now)
         self.up, self.down, self.heard_at = bytearray(), bytearray(), 0.0
         names = names or [f"file{at}" for at in range(len(texts))]
         for name, text in zip(names, texts):
             self.host.add_file(name, text)
         self.editor = Editor(self.terminal, Wire(self), clock=lambda: self.now, asked_for=names, keys=bindings.KEY_SETS[key_set])
-        self.prefetch, self.editor.slices = self.editor.slices, SimpleNamespace(left=None, go_on=lambda: None)  # nothing loads at rest
+        self.terminal.hear = lambda data: self.editor.hear(read_note(data))
+        nothing_loads = SimpleNamespace(left=None, is_loading=False, go_on=lambda: None)
+        self.prefetch, self.editor.slices = self.editor.slices, nothing_loads
         self.editor.begin()
         self.editor.arrange(*self.random.choice(self.SIZES))
         self.send()
@@ -153,7 +176,7 @@ class Pair:
         for tag in self.host.written():
             self.written.append(tag)
             told = next((note for note in self.failing if note.tag == tag), None)
-            self.editor.hear(told or saved(tag))
+            self.ends.answer_write(told or saved(tag))
             if told is not None:
                 self.failing.remove(told)
                 self.host.mark_dirty(tag)
@@ -173,12 +196,18 @@ class Pair:
         self.send()
         self.editor.notes.drawn()
 
+    def wakes_in(self):
+        """Seconds until the editor has something to do though nothing comes, or the client, for what it loads; None where that has no end."""
+        left = self.ends.client.due_in(int(self.now * 1000))
+        waits = [self.editor.wakes_in(), left / 1000 if left else None]
+        return min((wait for wait in waits if wait is not None), default=None)
+
     def finish(self, seconds=1.0):
         """Lets everything arrive, and so many seconds go by in which the user reads the line at the bottom."""
         until = self.now + seconds
         for _ in range(100_000):
             self.pause()
-            waits = [wait for wait in (self.editor.wakes_in(), self.editor.notes.left) if wait]
+            waits = [wait for wait in (self.wakes_in(), self.editor.notes.left) if wait]
             if self.up or self.down:
                 self.carry()
             elif waits and self.now + min(waits) <= until:

@@ -5,9 +5,11 @@ import re
 import time
 from types import SimpleNamespace
 
-from .pairs import Pair, is_loaded_beside, loads_of, opened
+from .pairs import Line, Pair, is_loaded_beside, loads_of, opened
 from .redraw import Paper, screen_on
-from .support import Session, expect, made, stat_of
+from .support import Session, expect, made, stat_of, wait_until
+
+MOST_AT_REST = 10  # seconds in which a text of 600 KB is loaded at rest over no delay: a loader that isn't woken takes half a minute
 
 
 def check_pages_wait(folder):
@@ -244,6 +246,35 @@ def check_keys_before_loading(folder):
     pair.finish()
     expect(len(loads) == 1, f"after them it asks by {loads}")
     pair.check()
+
+
+def check_what_is_shown_between_slices(folder):
+    """Between two slices a window asks for what it lacks, though the user rests: where a slice takes seconds the last page shows after two
+    trips."""
+    lines = "".join(f"line {at} {'x' * 60}\n" for at in range(2000))
+    pair, editor, key, _ = opened(lines, size=(20, 80))
+    pair.take_line(Line())
+    pair.wait(3)
+    expect(pair.terminal.locked(1), "this test is wrong: no slice is under way")
+    editor.take(key("^End"))
+    pair.wait(3)
+    for _ in range(2):
+        pair.now += 1.0
+        pair.trip()
+    layout = editor.focus.layout()
+    expect(layout.end == editor.focus.length and not any(row.has_gap for row in layout.rows), "the last page doesn't show")
+
+
+def check_all_is_loaded_at_rest(folder):
+    """While nobody presses a key the whole text comes, slice after slice, of a host that stays, and of one that doesn't."""
+    text = "".join(f"line {number}\n" for number in range(60_000))
+    made(folder, a=text)
+    for stays in (False, True):
+        with Session(folder, "a.txt", stays=stays) as session:
+            session.wait_for("line 14")
+            wait_until(lambda: session.bytes_down() > len(text), "it does not load all in time", MOST_AT_REST)
+            session.leave()
+        (folder / "status").unlink()
 
 
 def check_loading_when_held_up(folder):

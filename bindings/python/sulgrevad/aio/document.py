@@ -1,5 +1,6 @@
 """A text that is open in a session."""
 import asyncio
+from functools import partial
 from typing import TYPE_CHECKING, Callable, Optional
 
 from sulgrevad._library import Text, bytes_of
@@ -26,7 +27,6 @@ class Document:
         self.on_change: Optional[Callable[[int, int, str], object]] = None
         self.on_dropped: Optional[Callable[[str], object]] = None
         self._is_ready = False  # all of it has come once
-        self._is_loading = True  # a part of it has still to come
         self._is_closing = False
         self._refusal: Optional[Exception] = None  # why it can't be opened
 
@@ -73,7 +73,7 @@ class Document:
         RequestRefused if the host could not write the text, and then the document is unsaved; SessionOver and SessionLost. The call itself
         raises, in this order: SessionOver or SessionLost; Missing if the document is closed; TooMany if 1,000 requests wait."""
         self._check()
-        return self._session._write(self.tag)
+        return self._session._begin(partial(self._session._client.write, self.tag))
 
     def run(self, line: str) -> "asyncio.Future[str]":
         """Runs a command line on the text as it is now. Returns a future, whose result is what the line printed, once all that it changed
@@ -92,6 +92,10 @@ class Document:
         """Closes the document, after all that was asked for before: what is not written is lost. Raises SessionOver and SessionLost;
         TooMany if 1,000 requests wait."""
         await self._session._close_document(self)
+
+    def _note_ready(self) -> None:
+        """Notes that all of the text has come."""
+        self._is_ready = True
 
     def _check(self) -> None:
         self._session._check()

@@ -3,12 +3,13 @@ import asyncio
 from collections import deque
 from dataclasses import dataclass
 from functools import partial
-from typing import Any, Callable, Deque, Dict, List
+from typing import Any, Callable, Deque, Dict, List, Optional
 
 from sulgrevad.client import Client
+from sulgrevad.note import Note
 from sulgrevad.overlay import EventKind
 from sulgrevad.results import TerminalDid
-from sulgrevad.status import NoMemory, Status, TooMany, Waiting, error_of
+from sulgrevad.status import NoMemory, NoteFault, Status, TooMany, Waiting, error_of
 
 MOST_REQUESTS = 1000  # that wait
 MOST_TYPED = 512  # runes of a line that are typed together
@@ -30,31 +31,26 @@ def succeed(future: "asyncio.Future[Any]", result: Any) -> None:
 
 @dataclass
 class Request:
-    """One event of the client, and what follows from it: `acted` is called once it has acted, `refused` if it does nothing and never will.
-    `taken` is called once the client has it: if it is shared, a write that waits does for this one, and neither of the others comes."""
+    """Something that the client is asked for: `ask` does that, and returns its number. `acted` is called once it has acted, `refused` if it
+    does nothing and never will. That of a task of the host's program is answered instead of that it acts: whoever waits has `answer`."""
 
-    kind: EventKind
-    tag: int = 0
-    start: int = 0
-    number: int = 0
-    version: int = 0
-    text: str = ""
+    ask: Callable[[], int]
     acted: Callable[[], None] = lambda: None
     refused: Callable[[Exception], None] = lambda why: None
-    taken: Callable[[bool], None] = lambda is_shared: None
+    answer: "Optional[asyncio.Future[Note]]" = None
 
 
 class Requests:
-    """The requests of a client, in their order: those that it hasn't got, because memory was out, and by their numbers those that have not
-    acted."""
+    """The requests of a client, in their order: those that it hasn't got, because memory was out; by their numbers those that have not
+    acted; and by those of their tasks who waits for an answer."""
 
-    def __init__(self, client: Client) -> None:
-        self._client = client
+    def __init__(self) -> None:
         self._new: Deque[Request] = deque()
         self._waiting: Dict[int, Request] = {}
+        self._tasks: "Dict[int, List[asyncio.Future[Note]]]" = {}
 
     def __len__(self) -> int:
-        return len(self._new) + len(self._waiting)
+        return len(self._new) + len(self._waiting) + len(self._tasks)
 
     def add(self, *requests: Request) -> None:
         """Adds requests behind the others, all or none. Raises TooMany if 1,000 would wait."""
@@ -62,29 +58,39 @@ class Requests:
             raise TooMany(Status.TOO_MANY)
         self._new.extend(requests)
 
-    def put(self) -> None:
-        """Gives the client what it hasn't got. Raises NoMemory: the rest stays."""
+    def put(self) -> bool:
+        """Gives the client what it hasn't got, and returns whether it has all then. Raises NoMemory: the rest stays."""
         while self._new:
             new = self._new[0]
             try:
-                number = self._client.ask(new.kind, new.tag, new.start, new.number, version=new.version, text=new.text)
+                number = new.ask()
             except Waiting:  # an edit was put for whose step memory was out
                 raise NoMemory(Status.NO_MEMORY) from None
+            except TooMany:  # what it asks for by itself, to load a text, counts there: once some have acted the rest has room
+                return False
+            except NoteFault as why:  # no message can have this path
+                new.refused(why)
+            else:
+                if new.answer is None:
+                    self._waiting[number] = new
+                else:
+                    self._tasks.setdefault(number, []).append(new.answer)
             self._new.popleft()
-            is_shared = number in self._waiting
-            if not is_shared:
-                self._waiting[number] = new
-            new.taken(is_shared)
+        return True
 
     def take(self, did: TerminalDid) -> None:
-        """Answers the request that has acted, or was refused, if this tells of one."""
-        if did.request == 0:
-            return
-        request = self._waiting.pop(did.request)
+        """Answers the request that has acted, or was refused, if this tells of one: what the client loads by itself has a number, too."""
+        request = self._waiting.pop(did.request, Request(lambda: 0))
         if did.why is None:
             request.acted()
-        else:
-            request.refused(error_of(did.why))
+            return
+        request.refused(error_of(did.why))
+        for future in self.answered(did.task):
+            fail(future, error_of(did.why))
+
+    def answered(self, task: int) -> "List[asyncio.Future[Note]]":
+        """Takes out those who wait for the answer of a task, and returns them."""
+        return self._tasks.pop(task, [])
 
 
 class Run:
@@ -96,13 +102,14 @@ class Run:
 
     def requests(self, tag: int, line: str, is_alone: bool) -> List[Request]:
         """Returns the requests that do it. If no other line is under way the command file is emptied, so that it doesn't grow for ever."""
-        refused = partial(fail, self.printed)
-        requests = [Request(EventKind.WORK, tag, refused=refused)]
+        ask, refused = self._client.ask, partial(fail, self.printed)
+        requests = [Request(partial(ask, EventKind.WORK, tag), refused=refused)]
         if is_alone:
-            requests.append(Request(EventKind.SELECT, COMMAND_FILE, number=self._client.len(COMMAND_FILE)))
-        requests += [Request(EventKind.TYPE_CMD, text=piece, refused=refused) for piece in pieces_of(f"\n{line}\n")]
+            requests.append(Request(partial(ask, EventKind.SELECT, COMMAND_FILE, number=self._client.len(COMMAND_FILE))))
+        typed = [partial(ask, EventKind.TYPE_CMD, text=piece) for piece in pieces_of(f"\n{line}\n")]
+        requests += [Request(each, refused=refused) for each in typed]
         requests[-1].acted = self._typed
-        return [*requests, Request(EventKind.LOAD, COMMAND_FILE, number=MOST_RUNES, acted=self._printed)]
+        return [*requests, Request(partial(ask, EventKind.LOAD, COMMAND_FILE, number=MOST_RUNES), acted=self._printed)]
 
     def _typed(self) -> None:
         self._begin = self._client.len(COMMAND_FILE)

@@ -4,8 +4,8 @@ import contextlib
 import errno
 import os
 import socket
-from collections import deque
-from typing import Callable, Deque, Dict, List, Mapping, Optional, Sequence, Set, Tuple, Union
+from collections import defaultdict, deque
+from typing import Callable, DefaultDict, Deque, Dict, List, Mapping, Optional, Sequence, Set, Tuple, Union
 
 from sulgrevad.aio.ends import End, within
 from sulgrevad.carrier import ID_BYTES
@@ -16,6 +16,7 @@ from sulgrevad.status import LinkFault, MarkRefused, Missing, NoteFault, Status,
 
 MESSAGES_VERSION = 1  # of the messages of a session
 MOST_WORDS = 900  # characters of words for people in one message
+MOST_REQUESTS = 1000  # for writes of a file that wait
 GREETING = 30.0  # seconds that a hello may take
 LINGER = 30.0  # seconds for which an ended session waits for its terminal to hear of that
 CLOSING = 1.0  # seconds that connections may take to close
@@ -36,7 +37,7 @@ class _Served(End):
         super().__init__()
         self.id, self.host, self.link, self.server = id, Host(), Link(Link.HOST, id), server
         self.tags: Dict[int, str] = {}
-        self.requests: Dict[int, int] = {}  # of the next write of each file
+        self.requests: DefaultDict[int, Deque[int]] = defaultdict(lambda: deque(maxlen=MOST_REQUESTS))  # of the next writes
         self.to_mark: Set[int] = set()  # files that are dirty, and not marked yet
         self._came = b""  # bytes that the host has not taken
         self._heard: Optional[bytes] = None  # a note that is not done yet
@@ -154,7 +155,7 @@ class _Served(End):
 
     def _write(self, tag: int) -> None:
         """Has the program write a text, and says what became of it before the answer goes out."""
-        name, request = self.tags.get(tag) or self.host.name(tag), self.requests.pop(tag, 0)
+        name, request = self.tags.get(tag) or self.host.name(tag), self.requests[tag].popleft() if self.requests[tag] else 0
         note = Note(NoteKind.SAVED, request, tag, path=name.encode(), text=f"{name} is written")
         try:
             self.server._write(name, self.host.saved(tag))
@@ -173,7 +174,7 @@ class _Served(End):
 
     def _hear(self, note: Note) -> None:
         if note.kind == NoteKind.WRITE:
-            self.requests[note.tag] = note.request
+            self.requests[note.tag].append(note.request)
         elif note.kind == NoteKind.OPEN:
             self._open(note)
         elif note.request:

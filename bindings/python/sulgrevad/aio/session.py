@@ -9,13 +9,13 @@ from typing import Any, Awaitable, Callable, Deque, Dict, List, Optional, Set, T
 
 from sulgrevad.aio.document import Document
 from sulgrevad.aio.ends import End, RequestRefused, SessionLost, SessionOver, now, seconds, told_of, within
-from sulgrevad.aio.requests import COMMAND_FILE, MOST_REQUESTS, MOST_RUNES, Request, Requests, Run, fail, succeed
+from sulgrevad.aio.requests import MOST_REQUESTS, MOST_RUNES, Request, Requests, Run, fail, succeed
 from sulgrevad.carrier import ID_BYTES
 from sulgrevad.client import Client, ClientEvent, ClientEventKind
 from sulgrevad.line import LineDetails, Tick
-from sulgrevad.note import Note, NoteCode, NoteKind, read_note, write_note
+from sulgrevad.note import Note, NoteKind, read_note
 from sulgrevad.overlay import EventKind, Splice, SpliceKind
-from sulgrevad.status import NoteFault, SamError, Status, TooMany
+from sulgrevad.status import NoMemory, NoteFault, SamError, Status, TooMany
 
 VERSION = 2  # of the protocol
 OPENING = 30.0  # seconds that a connection may take
@@ -43,19 +43,17 @@ class Session(End):
         self._client = Client(self._id, take_over, now())
         self._opener, self._on_line = opener, on_line
         self._documents: Dict[int, Document] = {}
-        self._requests = Requests(self._client)
-        self._notes: List[bytes] = []  # for the host, which the client hasn't got
-        self._opens: "Dict[int, asyncio.Future[Note]]" = {}  # who waits for which answer
-        self._writes: "Dict[int, Deque[List[asyncio.Future[Note]]]]" = {}  # who waits for the writes of a file, one after another
+        self._joins: "Dict[bytes, asyncio.Future[Note]]" = {}  # answers to come, by the paths that were asked for
+        self._requests = Requests()
         self._runs = 0  # command lines that are under way
         self._waits: List[_Wait] = []
         self._futures: "Set[asyncio.Future[Any]]" = set()  # of all that wait
         self._changes: Deque[Callable[[], object]] = deque()  # that the program was not told of
-        self._opened, self._state = 0, Client.DOWN
+        self._state = Client.DOWN
         self._is_closing = False
         self._why: Optional[BaseException] = None  # the session is over
         self._woken = asyncio.Event()
-        self._requests.add(Request(EventKind.OFFER_VERSION, version=VERSION), Request(EventKind.OPEN_CMD))
+        self._requests.add(self._offer(), Request(partial(self._client.ask, EventKind.OPEN_CMD)))
         self._keeper = asyncio.get_running_loop().create_task(self._keep())
         self._carrying: Optional["asyncio.Task[None]"] = None
 
@@ -66,12 +64,7 @@ class Session(End):
         RequestRefused if the host has no such text, and NoteFault for a name that no message can have; TooMany if 1,000 requests wait;
         SessionOver and SessionLost, too."""
         self._check()
-        number = self._opened = self._opened + 1
-        note = write_note(Note(NoteKind.OPEN, number, path=name.encode("utf-8", "surrogateescape")))
-        answer = self._opens[number] = self._future()
-        self._notes.append(note)
-        self._go_on()
-        tag = (await answer).tag
+        tag = await self._join(name.encode("utf-8", "surrogateescape"))
         document = self._documents.get(tag) or self._begin_open(tag, name)
         await self._until(lambda: document._is_ready or document._refusal is not None)
         if document._refusal:
@@ -97,7 +90,7 @@ class Session(End):
     @property
     def has_all(self) -> bool:
         """Returns whether the host has all that was done here, and nothing waits."""
-        return len(self._requests) == 0 and not self._notes and self._client.has_all
+        return len(self._requests) == 0 and self._client.has_all
 
     async def wait(self) -> None:
         """Waits until the session is over: closed here, or ended by its host. Raises SessionLost if it is lost, and SessionOver if the
@@ -117,7 +110,7 @@ class Session(End):
                 return
             await self._until(lambda: len(self._requests) < MOST_REQUESTS)
             self._is_closing = True
-            self._requests.add(Request(EventKind.EXIT))
+            self._requests.add(Request(partial(self._client.ask, EventKind.EXIT)))
             self._go_on()
             await self._until(lambda: self._client.state().exited)
             with contextlib.suppress(MemoryError, OSError):
@@ -184,27 +177,34 @@ class Session(End):
             future.cancel()
             raise
 
+    def _begin(self, ask: Callable[[], int]) -> "asyncio.Future[Note]":
+        """Asks the host's program for something, and returns the future of its answer. Raises TooMany."""
+        answer = self._future()
+        self._ask(answer, Request(ask, refused=partial(fail, answer), answer=answer))
+        self._go_on()
+        return answer
+
+    async def _join(self, path: bytes) -> int:
+        """Has the host join a text, and returns its tag. All who ask for it meanwhile wait for one answer: else those who give up, and ask
+        again as long as there is no line, would fill up what may wait."""
+        if path not in self._joins:
+            answer = self._joins[path] = self._begin(lambda: self._client.begin(NoteKind.OPEN, path=path, now=now()))
+            answer.add_done_callback(partial(self._note_joined, path))
+        answer = self._joins[path]
+        await asyncio.wait({answer})  # a cancellation ends this wait alone
+        return answer.result().tag
+
+    def _note_joined(self, path: bytes, answer: "asyncio.Future[Note]") -> None:
+        del self._joins[path]
+        answer.exception()  # which nobody asks for if all have given up
+
     def _replace(self, document: Document, start: int, end: int, text: bytes) -> None:
-        self._requests.put()  # what was asked for before doesn't find this edit
+        if not self._requests.put():  # what was asked for before doesn't find this edit
+            raise NoMemory(Status.NO_MEMORY)
         self._client.replace(document.tag, start, end, text)
         self._note_change(document.on_change, start, end - start, text.decode())
         self._tell_changes()
         self._go_on()
-
-    def _write(self, tag: int) -> "asyncio.Future[Note]":
-        answer = self._future()
-
-        def taken(is_shared: bool) -> None:
-            writes = self._writes.setdefault(tag, deque())
-            writes[-1].append(answer) if is_shared else writes.append([answer])
-
-        def refused(why: Exception) -> None:
-            for future in self._writes[tag].popleft():
-                fail(future, why)
-
-        self._ask(answer, Request(EventKind.WRITE, tag, taken=taken, refused=refused))
-        self._go_on()
-        return answer
 
     def _run(self, tag: int, line: str) -> "asyncio.Future[str]":
         run = Run(self._client, self._future())
@@ -219,16 +219,30 @@ class Session(End):
         self._go_on()
         return run.printed
 
+    def _offer(self) -> Request:
+        """Returns the request that has the host tell the names of its files."""
+        return Request(partial(self._client.ask, EventKind.OFFER_VERSION, version=VERSION))
+
     def _begin_open(self, tag: int, name: str) -> Document:
-        """Asks for the names of files if this one is new, and for all of its text."""
+        """Asks for the names of files if this one is new, and for all of its text: at once, and whenever some of it is not loaded. An empty
+        view asks for nothing by itself."""
+        document = Document(self, tag, name)
+
+        def see() -> int:
+            self._client.see(tag, 0, MOST_RUNES)
+            return self._client.ask(EventKind.OPEN, tag)
 
         def refuse(why: Exception) -> None:
             document._refusal = why
             self._documents.pop(tag, None)
 
-        document = Document(self, tag, name)
-        names = [] if self._client.file(tag).is_known else [Request(EventKind.OFFER_VERSION, version=VERSION)]
-        self._requests.add(*names, Request(EventKind.OPEN, tag, refused=refuse), *self._loads(document))
+        def loaded(_why: Optional[Exception] = None) -> None:
+            self._waits.insert(0, (lambda: self._client.first_gap(tag) is None, document._note_ready))  # before `open`, which looks at that
+
+        names = [] if self._client.file(tag).is_known else [self._offer()]
+        load = Request(partial(self._client.ask, EventKind.LOAD, tag, number=MOST_RUNES))
+        view = Request(partial(self._client.ask, EventKind.VIEW, tag), acted=loaded, refused=loaded)
+        self._requests.add(*names, Request(see, refused=refuse), load, view)
         self._documents[tag] = document
         self._go_on()
         return document
@@ -236,21 +250,22 @@ class Session(End):
     async def _close_document(self, document: Document) -> None:
         self._check()
         if document.is_open:
-            self._requests.add(Request(EventKind.CLOSE, document.tag))
+            self._requests.add(Request(partial(self._client.ask, EventKind.CLOSE, document.tag)))
             document._is_closing = True
             self._go_on()
         await self._until(lambda: not self._client.file(document.tag).is_open)
         self._documents.pop(document.tag, None)
+        self._client.forget(document.tag)
 
     # ---- What comes
 
     def _advance(self) -> None:
         """Goes on until nothing moves."""
         try:
-            self._put()
-            while (told := self._client.next_event(now())).kind != ClientEventKind.IDLE or self._take_back() or self._load_gaps():
+            self._requests.put()
+            while (told := self._client.next_event(now())).kind != ClientEventKind.IDLE or self._take_back():
                 self._take(told)
-                self._put()
+                self._requests.put()
             if self._client.state().exited and not self._is_closing:
                 self._client.acknowledge()
                 self._send()
@@ -258,20 +273,15 @@ class Session(End):
         finally:
             self._expect()
 
-    def _put(self) -> None:
-        """Gives the client what it hasn't got, because memory was out."""
-        self._requests.put()
-        while self._notes:
-            self._client.put_note(self._notes[0], now())
-            del self._notes[0]
-
     def _take(self, told: ClientEvent) -> None:
         for splice in [*self._client.splices()]:
             self._show(splice)
-        if told.did:
-            self._requests.take(told.did)
-        elif told.kind == ClientEventKind.NOTE:
+        if told.kind == ClientEventKind.NOTE:
             self._hear(self._client.note)
+        elif told.kind == ClientEventKind.ANSWERED and told.did:
+            self._answer(self._requests.answered(told.did.task), read_note(self._client.note))
+        elif told.kind in (ClientEventKind.STEPPED, ClientEventKind.REFUSED) and told.did:
+            self._requests.take(told.did)
         for wait in [*self._waits]:
             holds, act = wait
             if holds():
@@ -290,11 +300,11 @@ class Session(End):
             raise SessionOver("its host has ended the session")
         if note.kind == NoteKind.TAKEN_OVER:
             raise SessionLost(Status.LINK_OTHER_SESSION)
-        is_of_write = note.kind in (NoteKind.SAVED, NoteKind.NOT_SAVED) and note.code != NoteCode.TAKEN_UNSAVED
-        if note.kind in (NoteKind.OPENED, NoteKind.REFUSED) and note.request in self._opens:
-            answer([self._opens.pop(note.request)], note)
-        elif is_of_write and self._writes.get(note.tag):
-            self._waits.append((self._write_ends(note), partial(answer, self._writes[note.tag].popleft(), note)))
+
+    def _answer(self, futures: "List[asyncio.Future[Note]]", note: Note) -> None:
+        """Answers those who wait for a message of the host; those of a write once all has come of that."""
+        is_of_write = note.kind in (NoteKind.SAVED, NoteKind.NOT_SAVED)
+        self._waits.append((self._write_ends(note) if is_of_write else lambda: True, partial(answer, futures, note)))
 
     def _write_ends(self, note: Note) -> Callable[[], bool]:
         """Returns what holds once all has come of a write: behind the host's message stands whether the file is dirty."""
@@ -345,26 +355,6 @@ class Session(End):
                 return True
         return False
 
-    def _load_gaps(self) -> bool:
-        """Asks for what is not loaded of the documents, by one round trip. Returns whether there was something."""
-        for document in self._documents.values():
-            is_due = not document._is_loading and len(self._requests) + 2 <= MOST_REQUESTS
-            if is_due and self._client.first_gap(document.tag) is not None:
-                self._requests.add(*self._loads(document))
-                return True
-        return False
-
-    def _loads(self, document: Document) -> List[Request]:
-        """Returns the requests that load a text. An empty view behind them asks for nothing by itself."""
-
-        def loaded(_why: Optional[Exception] = None) -> None:
-            document._is_loading = False
-            document._is_ready = document._is_ready or self._client.first_gap(document.tag) is None
-
-        document._is_loading = True
-        load = Request(EventKind.LOAD, document.tag, number=MOST_RUNES)
-        return [load, Request(EventKind.VIEW, document.tag, acted=loaded, refused=loaded)]
-
     # ---- The line
 
     def _tell_state(self) -> None:
@@ -394,9 +384,8 @@ class Session(End):
             self._end(why)
 
     def _expect(self) -> None:
-        """Tells the line whether an answer is waited for: it knows of acknowledgements alone, which may come before it dies."""
-        is_loading = any(each._is_loading for each in self._documents.values())
-        self._client.expect(bool(self._futures) or is_loading or not self._client.has_all, now())
+        """Tells the line whether somebody waits, also for the end of the session, of which it doesn't know by itself."""
+        self._client.expect(bool(self._futures), now())
         self._woken.set()  # what it says next may be due sooner now
 
     async def _pause(self) -> None:

@@ -303,6 +303,8 @@ pub const SAM_CLIENT_BUSY: sam_client_event = 1;
 pub const SAM_CLIENT_STEPPED: sam_client_event = 2;
 pub const SAM_CLIENT_REFUSED: sam_client_event = 3;
 pub const SAM_CLIENT_NOTE: sam_client_event = 4;
+pub const SAM_CLIENT_ANSWERED: sam_client_event = 5;
+pub const SAM_CLIENT_UNANSWERED: sam_client_event = 6;
 
 /// The kind of an effect of a durable server: one of the numbers below.
 pub type sam_effect_kind = u32;
@@ -323,6 +325,7 @@ pub struct sam_did {
     pub start: u32,
     pub gone: u32,
     pub came: u32,
+    pub task: u32,
     pub tag: u16,
     pub kind: u8,
     pub loads: bool,
@@ -1042,13 +1045,8 @@ extern "C" {
     /// if the text is not UTF-8; SAM_NO_MEMORY if there is no memory for its runes; SAM_NONE if no event has this kind; SAM_COUNT_FULL if
     /// 2^64-1 requests were taken; SAM_WAITING while an edit was put that has not acted: make a step first; SAM_TOO_MANY if 1,000 requests
     /// wait; SAM_COUNT_FULL if 2^32-1 were taken while edits or requests waited; SAM_NO_MEMORY.
-    pub fn sam_overlay_ask(
-        overlay: *mut sam_overlay,
-        event: *const sam_event,
-        text: *const u8,
-        len: usize,
-        number: *mut u64,
-    ) -> sam_status;
+    pub fn sam_overlay_ask(overlay: *mut sam_overlay, event: *const sam_event, text: *const u8, len: usize, number: *mut u64)
+        -> sam_status;
     /// Has the oldest request act, if all edits before it are put and it can act at once, and hands out what became of it: at
     /// SAM_TURN_REQUEST it waits no more, and the next step has it act, or refuses it. A request waits for the edits of its file; one that
     /// takes the command lock for those of all files. Call it before sam_overlay_put_next, and make a step, as long as it hands out
@@ -1294,8 +1292,8 @@ extern "C" {
     /// hands out something else, so call it until it hands out SAM_TICK_NOTHING. At SAM_TICK_ASK go on (sam_client_next_event): that asks
     /// the host.
     pub fn sam_client_tick(client: *mut sam_client, now: u64, tick: *mut u32) -> sam_status;
-    /// Hands out the number of milliseconds until sam_client_tick has something to say, if no other call comes before. Returns SAM_NONE if
-    /// it never has.
+    /// Hands out the number of milliseconds until sam_client_tick or sam_client_next_event has something to do, if no other call comes
+    /// before. Returns SAM_NONE if neither ever has.
     pub fn sam_client_due_in(client: *mut sam_client, now: u64, left: *mut u64) -> sam_status;
     /// Takes a connection that the program has opened: the connection before is over. Hands out its number, counted from 1, which names it
     /// in the calls below. Send the bytes of sam_client_take_out: its hello. Refused: SAM_COUNT_FULL after 2^64-1 connections.
@@ -1309,8 +1307,8 @@ extern "C" {
     /// Doubts an open connection, because an address of the machine came or went, as sam_line_address_changed does. Then go on: the host is
     /// asked.
     pub fn sam_client_address_changed(client: *mut sam_client, now: u64) -> sam_status;
-    /// Notes whether the program waits for an answer of the host's program, as to a note of its own: a host that doesn't answer is found
-    /// out then, as by sam_line_expect.
+    /// Notes whether the program waits for an answer to a note of its own: a host that doesn't answer is found out then, as by
+    /// sam_line_expect. While a task is open, an event is held or something is locked, the client waits in any case.
     pub fn sam_client_expect(client: *mut sam_client, expects: bool, now: u64) -> sam_status;
     /// Takes bytes that came on a connection, from its first one on, in pieces of any length, all or none. Then go on. Its refusals are
     /// those of sam_line_receive, in its order.
@@ -1325,12 +1323,15 @@ extern "C" {
     /// Goes on until there is something to tell, and hands out what (enum sam_client_event). Bytes of the host are received, requests and
     /// edits that wait act once they can, and all that is composed goes into the line. Call it after each call that brought something,
     /// until it hands out SAM_CLIENT_IDLE, and take all splices before each call. `did` is as sam_overlay_step hands it out at
-    /// SAM_CLIENT_STEPPED, and has `event`, `request` and `why` alone at SAM_CLIENT_REFUSED: which event it was, counted from 1 over all
-    /// events that acted or were refused, edits that were put among them, and SAM_REFUSAL... If a request acted or was refused, `request`
-    /// is its number, as sam_client_ask handed it out: each is told once, in their order, over all connections. Else the fields are 0.
-    /// Refused, in this order, and nothing is handed out then: SAM_WAITING if splices are left, and all is as it was. Else some of what
-    /// waited may be done, and nothing is lost: why the terminal has stopped, at this call or before, SAM_STREAM.. or SAM_TERM_REFUSED..;
-    /// SAM_COUNT_FULL; SAM_UNFINISHED if memory is short: call it again later.
+    /// SAM_CLIENT_STEPPED, and has `event`, `request`, `task` and `why` alone at SAM_CLIENT_REFUSED: which event it was, counted from 1
+    /// over all events that acted or were refused, edits that were put among them, and SAM_REFUSAL... If a request acted or was refused,
+    /// `request` is its number, as sam_client_ask handed it out: each is told once, in their order, over all connections. Requests by which
+    /// the client loads a text by itself have numbers, too, and are not told where they are refused. `task` is the task's number at
+    /// SAM_CLIENT_ANSWERED, at SAM_CLIENT_UNANSWERED, and where the write of sam_client_write is refused: each task ends once, by one of
+    /// these. Else the fields are 0. Where nothing else moves, it asks for what is to be loaded next (sam_client_see). Refused, in this
+    /// order, and nothing is handed out then: SAM_WAITING if splices are left, and all is as it was. Else some of what waited may be done,
+    /// and nothing is lost: why the terminal has stopped, at this call or before, SAM_STREAM.. or SAM_TERM_REFUSED..; SAM_COUNT_FULL;
+    /// SAM_UNFINISHED if memory is short: call it again later.
     pub fn sam_client_next_event(client: *mut sam_client, now: u64, kind: *mut sam_client_event, did: *mut sam_did) -> sam_status;
     /// Goes on as sam_client_next_event does, and over each step that is an edit: of the host's (Hgrowdata, Hcut), of runes that are loaded
     /// (Hdata), or one of the user's that acted, which made no splice. Hands out their splices in their order, each with the runes that it
@@ -1349,13 +1350,12 @@ extern "C" {
     ) -> sam_status;
     /// Hands out the next change of the shown text by the last step. Returns SAM_NONE if none is left.
     pub fn sam_client_next_splice(client: *mut sam_client, splice: *mut sam_splice) -> sam_status;
-    /// Copies the note that was told last (SAM_CLIENT_NOTE), and hands out its length in bytes, which may be 0. It stays until the next one
-    /// is told. Before the first it has 0 bytes. Refused: SAM_NO_ROOM if the buffer has less room than the note; a room of 4,096 bytes is
-    /// always enough.
+    /// Copies the note that was told last (SAM_CLIENT_NOTE, SAM_CLIENT_ANSWERED), and hands out its length in bytes, which may be 0. It
+    /// stays until the next one is told. Before the first it has 0 bytes. Refused: SAM_NO_ROOM if the buffer has less room than the note; a
+    /// room of 4,096 bytes is always enough.
     pub fn sam_client_note(client: *mut sam_client, into: *mut u8, room: usize, len: *mut usize) -> sam_status;
-    /// Puts a note for the host's program, behind all that was composed. So it comes out behind the edits and events that have acted, and
-    /// before those that wait. Refused, in this order, and the note is not put then: SAM_LINK_TOO_LONG for more than 4,096 bytes;
-    /// SAM_COUNT_FULL; SAM_NO_MEMORY.
+    /// Puts a note for the host's program. It comes out behind the edits and events that have acted, and before those that wait. Refused,
+    /// in this order, and the note is not put then: SAM_LINK_TOO_LONG for more than 4,096 bytes; SAM_COUNT_FULL; SAM_NO_MEMORY.
     pub fn sam_client_put_note(client: *mut sam_client, bytes: *const u8, len: usize, now: u64) -> sam_status;
     /// Replaces the shown runes of a file from the place `start` to the place `end` by a text of any length, all or nothing. The new runes
     /// stand behind what is shown before `start`. They are shown at once, whatever is locked, and go to the host as the client goes on; no
@@ -1387,13 +1387,7 @@ extern "C" {
     /// its runes; SAM_NONE if no event has this kind; SAM_COUNT_FULL if 2^64-1 requests were taken; SAM_WAITING while an edit was put that
     /// has not acted: go on first; SAM_TOO_MANY if 1,000 requests wait; SAM_COUNT_FULL if 2^32-1 were taken while edits or requests waited;
     /// SAM_NO_MEMORY.
-    pub fn sam_client_ask(
-        client: *mut sam_client,
-        event: *const sam_event,
-        text: *const u8,
-        len: usize,
-        number: *mut u64,
-    ) -> sam_status;
+    pub fn sam_client_ask(client: *mut sam_client, event: *const sam_event, text: *const u8, len: usize, number: *mut u64) -> sam_status;
     /// Takes back the next insertion that waits over a file, if an edit could act at once and the file has no room for this one, because
     /// the host put more in meanwhile. Ask for it where the client is idle and edits wait over a free file. Copies its runes in UTF-8, all
     /// of them, and hands out the number of bytes, and the splice by which they went of the shown text, as sam_overlay_drop_next does, with
@@ -1406,6 +1400,39 @@ extern "C" {
         room: usize,
         len: *mut usize,
     ) -> sam_status;
+    /// Has the host's program do something, and hands out the number of the task, counted from 1 over all tasks. The kind is SAM_NOTE_OPEN,
+    /// to join the file or the folder at a path; SAM_NOTE_COMPLETE, to tell the names that complete a path; or SAM_NOTE_RELOAD, to read the
+    /// file of a tag anew from its disk. The message goes behind all that acted, as a note does, and has the number as its request.
+    /// sam_client_next_event tells once that the answer came (SAM_CLIENT_ANSWERED), with that number: sam_client_note copies it. Refused,
+    /// in this order, and no task is begun then: SAM_NOTE_BAD_KIND for another kind; SAM_TOO_MANY if 1,000 tasks are open; SAM_COUNT_FULL
+    /// after 2^32-1 tasks; SAM_NO_MEMORY if there is no room for the task; SAM_NOTE_BAD_FIELD if the kind has no tag and the tag is not 0,
+    /// or no path and the path is not empty; SAM_NOTE_BAD_LENGTH if the message would have more than 4,096 bytes; SAM_NOTE_BAD_PATH if a
+    /// byte of the path is 0; SAM_COUNT_FULL, SAM_NO_MEMORY of the line.
+    pub fn sam_client_begin(
+        client: *mut sam_client,
+        kind: u32,
+        tag: u16,
+        path: *const u8,
+        len: usize,
+        now: u64,
+        task: *mut u32,
+    ) -> sam_status;
+    /// Asks for a file to be written as it is shown now, as SAM_EVENT_WRITE does by sam_client_ask, and hands out the number of the task.
+    /// Its answer is SAM_NOTE_SAVED or SAM_NOTE_NOT_SAVED; if the write is refused, no answer comes, and `task` of sam_did has its number
+    /// at SAM_CLIENT_REFUSED. A write that would find the same text as one that waits is that task. Refused, in this order, and no task is
+    /// begun then: SAM_TOO_MANY if 1,000 tasks are open; SAM_COUNT_FULL after 2^32-1 tasks; SAM_NO_MEMORY if there is no room for the task;
+    /// then as sam_client_ask refuses a write, in its order: SAM_COUNT_FULL, SAM_WAITING, SAM_TOO_MANY, SAM_COUNT_FULL, SAM_NO_MEMORY.
+    pub fn sam_client_write(client: *mut sam_client, tag: u16, task: *mut u32) -> sam_status;
+    /// Notes what a window shows of a file, from the place `start` to the place `end`, in the place of what it showed before. While nothing
+    /// else waits, the client loads that by itself, then what is behind it and the rest of the file, in slices, but these only once nobody
+    /// has pressed a key for a second (sam_client_rest). Of several files, the one that was told last is first. Any tag and any place may
+    /// be told, also before the file is open. Refused: SAM_NO_MEMORY, and all is as it was.
+    pub fn sam_client_see(client: *mut sam_client, tag: u16, start: u32, end: u32) -> sam_status;
+    /// Leaves out a file that no window shows: the client loads no more of it by itself.
+    pub fn sam_client_forget(client: *mut sam_client, tag: u16) -> sam_status;
+    /// Counts a key of the user that edits nothing, as one that moves the caret: for a second only what windows show is loaded, so what the
+    /// key asks for waits for no slice. A replacement counts by itself.
+    pub fn sam_client_rest(client: *mut sam_client, now: u64) -> sam_status;
     /// Hands out whether the host has all that the user did, and all notes: no edit and no request waits, no event is held, all is sent,
     /// and the host's end of the link has acknowledged all.
     pub fn sam_client_has_all(client: *mut sam_client, has: *mut bool) -> sam_status;

@@ -6,7 +6,7 @@ use crate::link::MOST_NOTE;
 use crate::step::term_step;
 use crate::terminal::shown;
 use crate::{
-    done, part_of_text, short_text, tells, told, whole_text, Dropped, Error, Event, FileState, LineDetails, Refusal, Replacement,
+    done, part_of_text, short_text, tells, told, whole_text, Dropped, Error, Event, FileState, LineDetails, NoteKind, Refusal, Replacement,
     ShownEdit, Splice, SpliceKind, TermState, TermStep, Tick,
 };
 use std::cell::UnsafeCell;
@@ -23,14 +23,20 @@ pub enum ClientEvent {
     /// A frame was received or an event acted. The splices are to be taken. If a request acted, its number stands beside it.
     Stepped(TermStep, Option<u64>),
     /// An event was refused: by its number over all events that acted or were refused, edits that were put among them; as a request, by
-    /// that of [`Client::ask`]. A reason that this crate doesn't know is `Err`, with its number in sulgrevad.h.
+    /// that of [`Client::ask`]; as the write of a task, to which no answer comes, by that of [`Client::write`]. A reason that this crate
+    /// doesn't know is `Err`, with its number in sulgrevad.h.
     Refused {
         event: u64,
         request: Option<u64>,
+        task: Option<u32>,
         why: Result<Refusal, u32>,
     },
     /// A note came, which [`Client::note`] returns. All frames before it are received.
     Note,
+    /// A note came, which [`Client::note`] returns: it answers the task of this number.
+    Answered(u32),
+    /// The session is over, and no answer comes to the task of this number.
+    Unanswered(u32),
 }
 
 impl ClientEvent {
@@ -43,9 +49,12 @@ impl ClientEvent {
             sys::SAM_CLIENT_REFUSED => ClientEvent::Refused {
                 event: did.event,
                 request,
+                task: (did.task != 0).then_some(did.task),
                 why: Refusal::of(did.why).ok_or(did.why),
             },
             sys::SAM_CLIENT_NOTE => ClientEvent::Note,
+            sys::SAM_CLIENT_ANSWERED => ClientEvent::Answered(did.task),
+            sys::SAM_CLIENT_UNANSWERED => ClientEvent::Unanswered(did.task),
             _ => ClientEvent::Idle,
         }
     }
@@ -137,7 +146,8 @@ impl Client {
         Tick::of(tells(|tick| unsafe { sys::sam_client_tick(self.at(), now, tick) }))
     }
 
-    /// Returns the number of milliseconds until `tick` has something to say, if no other call comes before; `None` if it never has.
+    /// Returns the number of milliseconds until `tick` or `next_event` has something to do, if no other call comes before; `None` if
+    /// neither ever has.
     pub fn due_in(&self, now: u64) -> Option<u64> {
         told(|left| unsafe { sys::sam_client_due_in(self.at(), now, left) })
     }
@@ -168,8 +178,8 @@ impl Client {
         unsafe { sys::sam_client_address_changed(self.at(), now) };
     }
 
-    /// Notes whether the program waits for an answer of the host's program, as to a note of its own: a host that doesn't answer is found
-    /// out then.
+    /// Notes whether the program waits for an answer to a note of its own: a host that doesn't answer is found out then. While a task is
+    /// open, an event is held or something is locked, the client waits in any case.
     pub fn expect(&mut self, expects: bool, now: u64) {
         unsafe { sys::sam_client_expect(self.at(), expects, now) };
     }
@@ -244,9 +254,8 @@ impl Client {
         note
     }
 
-    /// Puts a note for the host's program, behind all that was composed. So it comes out behind the edits and events that have acted, and
-    /// before those that wait. Errors, in this order, and the note is not put then: `Link(TooLong)` for more than 4,096 bytes; `CountFull`;
-    /// `NoMemory`.
+    /// Puts a note for the host's program. It comes out behind the edits and events that have acted, and before those that wait. Errors,
+    /// in this order, and the note is not put then: `Link(TooLong)` for more than 4,096 bytes; `CountFull`; `NoMemory`.
     pub fn put_note(&mut self, bytes: &[u8], now: u64) -> Result<(), Error> {
         done(unsafe { sys::sam_client_put_note(self.at(), bytes.as_ptr(), bytes.len(), now) })
     }
@@ -292,6 +301,47 @@ impl Client {
         Dropped::taken(self.waiting(tag), |splice, into, len| unsafe {
             sys::sam_client_drop_next(self.at(), tag, splice, into.as_mut_ptr(), into.len(), len)
         })
+    }
+
+    /// Has the host's program do something, and returns the number of the task, counted from 1: `Open`, to join the file or the folder at a
+    /// path; `Complete`, to tell the names that complete a path; or `Reload`, to read the file of a tag anew from its disk. The message
+    /// goes behind all that acted, as a note does. `next_event` tells once that the answer came, or that none comes. Errors, in this
+    /// order, and no task is begun then: `Note(BadKind)` for another kind; `TooMany` if 1,000 tasks are open; `CountFull`; `NoMemory`;
+    /// `Note(BadField)` if the kind has no tag and the tag is not 0, or no path and the path is not empty; `Note(BadLength)` if the message
+    /// would have more than 4,096 bytes; `Note(BadPath)` for a zero byte; `CountFull`; `NoMemory`.
+    pub fn begin(&mut self, kind: NoteKind, tag: u16, path: &[u8], now: u64) -> Result<u32, Error> {
+        let mut task = 0;
+        done(unsafe { sys::sam_client_begin(self.at(), kind as u32, tag, path.as_ptr(), path.len(), now, &mut task) })?;
+        Ok(task)
+    }
+
+    /// Asks for a file to be written as it is shown now, as `ask` does by `Write`, and returns the number of the task. Its answer is
+    /// `Saved` or `NotSaved`; if the write is refused, no answer comes, and `Refused` has its number. A write that would find the same text
+    /// as one that waits is that task. Errors, in this order, and no task is begun then: `TooMany` if 1,000 tasks are open; `CountFull`;
+    /// `NoMemory`; then those of `ask`.
+    pub fn write(&mut self, tag: u16) -> Result<u32, Error> {
+        let mut task = 0;
+        done(unsafe { sys::sam_client_write(self.at(), tag, &mut task) })?;
+        Ok(task)
+    }
+
+    /// Notes what a window shows of a file, from the place `start` to the place `end`, in the place of what it showed before. While nothing
+    /// else waits, the client loads that by itself, then what is behind it and the rest of the file, in slices, but these only once nobody
+    /// has pressed a key for a second (`rest`). Of several files, the one that was told last is first. Any tag and any place may be told,
+    /// also before the file is open. Its only error is `NoMemory`, after which all is as it was.
+    pub fn see(&mut self, tag: u16, start: u32, end: u32) -> Result<(), Error> {
+        done(unsafe { sys::sam_client_see(self.at(), tag, start, end) })
+    }
+
+    /// Leaves out a file that no window shows: the client loads no more of it by itself.
+    pub fn forget(&mut self, tag: u16) {
+        unsafe { sys::sam_client_forget(self.at(), tag) };
+    }
+
+    /// Counts a key of the user that edits nothing, as one that moves the caret: for a second only what windows show is loaded, so what the
+    /// key asks for waits for no slice. A replacement counts by itself.
+    pub fn rest(&mut self, now: u64) {
+        unsafe { sys::sam_client_rest(self.at(), now) };
     }
 
     /// Returns whether the host has all that the user did, and all notes: nothing waits here, and the host's end of the link has

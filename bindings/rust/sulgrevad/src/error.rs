@@ -194,7 +194,7 @@ pub enum Error {
     CountFull,
     /// Earlier work waits, so make steps, and take the splices, first; the input was not taken.
     Waiting,
-    /// 1,000 requests of a client wait, so go on first; the input was not taken.
+    /// 1,000 requests of a client wait, or 1,000 tasks are open, so go on first; the input was not taken.
     TooMany,
     /// Bytes that are not UTF-8.
     NotText,

@@ -20,7 +20,8 @@ const SHORT: Duration = Duration::from_millis(100);
 #[derive(Clone, Copy, Debug, PartialEq, Eq)]
 #[non_exhaustive]
 pub enum SessionError {
-    /// The host has refused for good: another terminal has the session (`OtherSession`), or the host has lost it (`NoSession`).
+    /// The host has refused for good: another terminal has the session (`OtherSession`), or the host has lost it (`NoSession`). Each task
+    /// that was open has been told as `Unanswered`.
     Lost(LinkFault),
     /// The client has stopped: the host's bytes are wrong (`Stream`, `TermRefused`), or a count is full.
     Stopped(Error),
@@ -170,17 +171,14 @@ where
         Ok(())
     }
 
-    /// Returns how long it may wait.
+    /// Returns how long it may wait. What is due while memory is short would be due again at once.
     fn rest(&self, limit: Duration) -> Duration {
-        let due = self
-            .client
-            .due_in(self.now())
-            .map_or(limit, |left| limit.min(Duration::from_millis(left)));
-        if self.is_short {
-            due.min(SHORT)
+        let due = if self.is_short {
+            Some(SHORT)
         } else {
-            due
-        }
+            self.client.due_in(self.now()).map(Duration::from_millis)
+        };
+        due.map_or(limit, |left| left.min(limit))
     }
 
     /// Moves all that can move. Returns whether something was told.
@@ -204,6 +202,9 @@ where
                 Err(why) => return Err(SessionError::Stopped(why)),
             }
         }
+        if !self.is_short {
+            self.check_line()?;
+        }
         self.expect();
         self.send();
         Ok(has_told)
@@ -224,9 +225,13 @@ where
                 Tick::Connect => self.connect()?,
                 Tick::Drop => self.hang_up(),
                 Tick::Ask => {} // which it does as it goes on
-                Tick::Nothing => break,
+                Tick::Nothing => return Ok(()),
             }
         }
+    }
+
+    /// Says why the session is lost, if it is. Ask it once all is told: of a lost session each task that is open is.
+    fn check_line(&self) -> Result<(), SessionError> {
         match self.client.describe(self.now()).state {
             LineState::Lost(why) => Err(SessionError::Lost(why)),
             _ => Ok(()),

@@ -1,8 +1,8 @@
 //! A client: a session over connections that break, what is told, and what is refused.
 
 use sulgrevad::{
-    Client, ClientEvent, Dropped, Error, Event, Host, LineState, Link, LinkFault, Refusal, Replacement, Role, ShownEdit, Splice,
-    SpliceKind, StreamFault, TermStep, Tick, MOST_NOTE,
+    read_note, write_note, Client, ClientEvent, Dropped, Error, Event, Host, LineState, Link, LinkFault, Note, NoteFault, NoteKind,
+    Refusal, Replacement, Role, ShownEdit, Splice, SpliceKind, StreamFault, TermStep, Tick, MOST_NOTE,
 };
 
 const ID: [u8; 16] = *b"a session's name";
@@ -17,10 +17,16 @@ struct Session {
     splices: Vec<Splice>,
     notes: Vec<Vec<u8>>,
     refused: Vec<(Option<u64>, Result<Refusal, u32>)>,
+    ended: Vec<ClientEvent>, // tasks
 }
 
 impl Session {
     fn new(text: &str) -> (Session, u16) {
+        Session::loaded(text, 9)
+    }
+
+    /// A session in which so much of the text is loaded.
+    fn loaded(text: &str, count: u32) -> (Session, u16) {
         let mut host = Host::new().unwrap();
         let file = host.add_file("a", text).unwrap();
         let mut session = Session {
@@ -32,9 +38,15 @@ impl Session {
             splices: Vec::new(),
             notes: Vec::new(),
             refused: Vec::new(),
+            ended: Vec::new(),
         };
         session.connect();
-        for event in [Event::OfferVersion(2), Event::OpenCmd, Event::Open(file), Event::Load(file, 0, 9)] {
+        for event in [
+            Event::OfferVersion(2),
+            Event::OpenCmd,
+            Event::Open(file),
+            Event::Load(file, 0, count),
+        ] {
             session.client.ask(event).unwrap();
             session.settle();
         }
@@ -63,7 +75,10 @@ impl Session {
         loop {
             match self.client.next_event(self.now).unwrap() {
                 ClientEvent::Idle => return,
-                ClientEvent::Refused { request, why, .. } => self.refused.push((request, why)),
+                ClientEvent::Refused {
+                    request, why, task: None, ..
+                } => self.refused.push((request, why)),
+                told @ (ClientEvent::Answered(_) | ClientEvent::Unanswered(_) | ClientEvent::Refused { .. }) => self.ended.push(told),
                 ClientEvent::Note => self.notes.push(self.client.note()),
                 _ => self.splices.extend(self.client.splices()),
             }
@@ -291,6 +306,110 @@ fn notes_go_both_ways() {
         session.client.put_note(&[0; MOST_NOTE + 1], 0),
         Err(Error::Link(LinkFault::TooLong))
     );
+}
+
+#[test]
+fn each_task_ends_once() {
+    let (mut session, file) = Session::new("hello");
+    let (client, now) = (&mut session.client, session.now);
+    assert_eq!(
+        (
+            client.begin(NoteKind::Open, 0, b"/tmp/a", now),
+            client.begin(NoteKind::Reload, file, b"", now)
+        ),
+        (Ok(1), Ok(2))
+    );
+    assert_eq!((client.write(file), client.write(file), client.write(9)), (Ok(3), Ok(3), Ok(4)));
+    session.settle();
+    assert!(matches!(
+        session.ended[..],
+        [ClientEvent::Refused {
+            request: Some(_),
+            task: Some(4),
+            why: Ok(Refusal::NoFile),
+            ..
+        }]
+    ));
+    let notes: Vec<_> = std::iter::from_fn(|| session.link.next_note()).collect();
+    let heard: Vec<_> = notes.iter().map(|note| read_note(note).unwrap()).collect();
+    let open = Note {
+        request: 1,
+        path: b"/tmp/a",
+        ..Note::new(NoteKind::Open)
+    };
+    let [reload, write] = [(NoteKind::Reload, 2), (NoteKind::Write, 3)].map(|(kind, request)| Note {
+        request,
+        tag: file,
+        ..Note::new(kind)
+    });
+    assert_eq!(heard[..3], [open, reload, write]);
+    for (kind, request) in [
+        (NoteKind::Saved, 3),
+        (NoteKind::Opened, 1),
+        (NoteKind::Opened, 1),
+        (NoteKind::Ended, 0),
+    ] {
+        let note = Note {
+            request,
+            ..Note::new(kind)
+        };
+        session.link.put_note(&write_note(&note).unwrap()).unwrap();
+    }
+    session.settle();
+    assert_eq!(
+        session.ended[1..],
+        [ClientEvent::Answered(3), ClientEvent::Answered(1), ClientEvent::Unanswered(2)]
+    );
+    assert_eq!(session.notes.len(), 2);
+}
+
+#[test]
+fn a_task_that_is_refused_is_not_begun() {
+    let (mut session, file) = Session::new("hello");
+    let client = &mut session.client;
+    for (kind, tag, path, why) in [
+        (NoteKind::Write, 0, &b"a"[..], NoteFault::BadKind),
+        (NoteKind::Open, 1, b"a", NoteFault::BadField),
+        (NoteKind::Open, 0, &[7; MOST_NOTE], NoteFault::BadLength),
+        (NoteKind::Complete, 0, b"\0", NoteFault::BadPath),
+    ] {
+        assert_eq!(client.begin(kind, tag, path, 0), Err(Error::Note(why)));
+    }
+    for number in 1..=1000 {
+        assert_eq!(client.begin(NoteKind::Reload, file, b"", 0), Ok(number));
+    }
+    assert_eq!(client.begin(NoteKind::Reload, file, b"", 0), Err(Error::TooMany));
+    assert_eq!(client.write(file), Err(Error::TooMany));
+}
+
+#[test]
+fn what_a_window_shows_is_loaded_first() {
+    let text = "line\n".repeat(2000);
+    let (mut session, file) = Session::loaded(&text, 0);
+    session.client.see(file, 5000, 5005).unwrap();
+    session.client.replace(file, 0, 0, "x").unwrap();
+    session.settle();
+    let shown = session.client.read(file, 4999, 7).unwrap();
+    let wanted: Vec<_> = text[4999..5004].chars().map(Some).collect();
+    assert_eq!(shown, [&[None], &wanted[..], &[None]].concat());
+    assert_eq!(session.client.due_in(session.now), Some(1000));
+    session.now += 999;
+    session.client.rest(session.now);
+    session.settle();
+    assert_eq!(session.client.due_in(session.now), Some(1000));
+    session.now += 1000;
+    session.settle();
+    assert_eq!((session.client.due_in(session.now), session.client.file(file).is_free), (Some(50), true));
+    while let Some(left) = session.client.due_in(session.now) {
+        session.now += left; // to the next slice
+        session.settle();
+    }
+    assert_eq!(session.client.text(file, 0), Some(format!("x{text}")));
+    let (mut session, file) = Session::loaded(&text, 0);
+    session.client.see(file, 0, 5).unwrap();
+    session.client.forget(file);
+    session.settle();
+    assert_eq!(session.client.first_gap(file, 0), Some(0));
 }
 
 #[test]

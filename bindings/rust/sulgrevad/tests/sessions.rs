@@ -6,7 +6,7 @@ use std::sync::{Arc, Mutex};
 use std::thread;
 use std::time::{Duration, Instant};
 use sulgrevad::{
-    read_hello, write_refusal, ClientEvent, Event, Host, Link, LinkFault, Role, Session, SessionError, SpliceKind, StreamFault,
+    read_hello, write_refusal, ClientEvent, Event, Host, Link, LinkFault, NoteKind, Role, Session, SessionError, SpliceKind, StreamFault,
 };
 
 const ID: [u8; 16] = *b"a session's name";
@@ -172,16 +172,20 @@ fn connections_are_cut_at_any_byte() {
 }
 
 #[test]
-fn a_session_that_is_lost_says_why() {
+fn a_session_that_is_lost_says_why_and_ends_its_tasks() {
     let far = Far::new("tea\n", Vec::new());
     let opened = Arc::clone(&far);
     let mut session = Session::new(*b"another session.", false, move || Far::connect(&opened)).unwrap();
+    let task = session.client.begin(NoteKind::Open, 0, b"a", 0).unwrap();
+    let mut told = Vec::new();
     let why = loop {
-        if let Err(why) = session.go_on(LIMIT, |_, _, _| {}) {
+        if let Err(why) = session.go_on(LIMIT, |_, event, _| told.push(event)) {
             break why;
         }
     };
     assert_eq!(why, SessionError::Lost(LinkFault::OtherSession));
+    assert_eq!(told, [ClientEvent::Unanswered(task)]);
+    assert_eq!(session.go_on(LIMIT, |_, event, _| panic!("{event:?}")), Err(why));
 }
 
 #[test]

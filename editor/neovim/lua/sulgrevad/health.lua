@@ -2,15 +2,15 @@
 local M = {}
 
 local health = vim.health or require "health"
-local start, ok, warn, fail, info = health.start or health.report_start, health.ok or health.report_ok, health.warn or health.report_warn,
-  health.error or health.report_error, health.info or health.report_info
+local function tell(how) return health[how] or health["report_" .. how] end -- as later Neovims, or 0.7, call it
+local ok, warn, fail, info = tell "ok", tell "warn", tell "error", tell "info"
 
 local function check_library()
   if not jit then return fail "Neovim runs without LuaJIT, whose FFI is needed" end
   local is_there, library = pcall(require, "sulgrevad.library")
   if not is_there then
-    local words = tostring(library):gsub("\n.*", "")
-    return fail("the library is not there: " .. words, { "./build or ./install, or set g:sulgrevad_library and g:sulgrevad_header" })
+    local advice = { "./build or ./install, or set g:sulgrevad_library and g:sulgrevad_header" }
+    return fail("the library is not there: " .. tostring(library):gsub("\n.*", ""), advice)
   end
   if library.C.sam_library_version() ~= library.version then
     return fail(("%s is of another version than %s"):format(library.path, library.header))
@@ -18,27 +18,18 @@ local function check_library()
   ok("library: " .. library.path)
 end
 
-local function check_commands()
+function M.check()
+  tell "start" "sulgrevad"
+  check_library()
   for name, why in pairs { ssh = "to reach another machine", samhost = "for files of this machine" } do
     if vim.fn.executable(name) == 1 then ok(name .. " is there") else info(("%s is not there, which is needed %s"):format(name, why)) end
   end
-end
-
-local function check_sessions()
-  local count = 0
-  for label, session in pairs(require("sulgrevad").sessions) do
-    local words = session.line:words()
-    count = count + 1;
+  local sessions = require("sulgrevad").sessions
+  for label, session in pairs(sessions) do
+    local words = session.line:words();
     (words == "" and ok or warn)(("session %s, %s: %s"):format(label, session.line.name, words == "" and "the line is well" or words))
   end
-  if count == 0 then info "there is no session" end
-end
-
-function M.check()
-  start "sulgrevad"
-  check_library()
-  check_commands()
-  check_sessions()
+  if not next(sessions) then info "there is no session" end
 end
 
 return M

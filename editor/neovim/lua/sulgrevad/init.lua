@@ -9,9 +9,8 @@ local SECONDS_TO_COMPLETE = 3
 local SECONDS_TO_WRITE = 10 -- for which :wq and :wqa wait for a host that answers
 local LABEL = "^[%w_.@][%w_.@-]*$"
 
-local function session_module() return require "sulgrevad.session" end
-
-local function say(...) session_module().say(...) end
+local function say(...) require("sulgrevad.session").say(...) end
+local function fail(words, ...) error("sulgrevad: " .. words:format(...), 0) end
 
 --## Sessions
 
@@ -26,15 +25,14 @@ end
 
 -- The session of a command, which begins where there is none.
 local function session_of(command, takes)
-  local label = label_of(command)
-  local first, number = label, 1
-  while M.sessions[label] and not M.sessions[label].over and (M.sessions[label].command ~= command or takes) do
+  local first, number = label_of(command), 1
+  local label, session = first, M.sessions[first]
+  while session and not session.over and (session.command ~= command or takes) do
     number = number + 1
     label = first .. "-" .. number
+    session = M.sessions[label]
   end
-  if not M.sessions[label] or M.sessions[label].over then
-    M.sessions[label] = session_module().begin(label, command, takes, M.new_file)
-  end
+  if not session or session.over then M.sessions[label] = require("sulgrevad.session").begin(label, command, takes, M.new_file) end
   return M.sessions[label]
 end
 
@@ -46,10 +44,6 @@ local function session_named(label)
   return session_of(label == "localhost" and "samhost" or (vim.g.sulgrevad_command or "ssh %s samhost"):format(label))
 end
 
-local function file_of(buf)
-  return M.files[buf == 0 and api.nvim_get_current_buf() or buf]
-end
-
 -- Waits until something holds, for a host that answers or is asked the first time. Whether it holds.
 local function wait(session, seconds, holds)
   vim.wait(1000 * seconds, function() return session.over or holds() or session.line:details().is_known and session.line:is_late() end, 5)
@@ -58,36 +52,38 @@ end
 
 --## Buffers
 
+-- Sets a buffer's options for a file of a host.
 local function set_up(buf)
-  vim.bo[buf].buftype = "acwrite"
-  vim.bo[buf].fileformat = "unix" -- a carriage return is a character of the text
-  vim.bo[buf].swapfile = false -- the host has the text, or a copy that is kept here
+  local options = vim.bo[buf]
+  options.buftype = "acwrite"
+  options.fileformat = "unix" -- a carriage return is a character of the text
+  options.swapfile = false -- the host has the text, or a copy that is kept here
 end
 
--- BufReadCmd: shows the file that a buffer's name names.
+-- BufReadCmd: shows the file that a buffer's name names. That of a file that is open comes from the host's disk.
 function M.read(buf, name)
   local label, path = name:match "^sulgrevad://([^/]*)/(.+)$"
-  if not label or not label:find(LABEL) then error("sulgrevad: no file is named by " .. name, 0) end
+  if not label or not label:find(LABEL) then fail("no file is named by %s", name) end
   set_up(buf)
   local file = M.files[buf]
-  if file and not file.session.over and file.tag and file.session.files[file.tag] == file then return M.read_again(file) end
-  local session = session_named(label)
-  file = session:open(path, buf)
-  M.files[buf] = file
-  wait(session, SECONDS_TO_OPEN, function() return file.is_filled or file.refusal or file.twin end)
+  local is_open = file and not file.session.over and file.tag and file.session.files[file.tag] == file
+  local session = is_open and file.session or session_named(label)
+  if is_open then
+    session:go_on()
+    if session.line:is_late() then return say("the file is not read anew: " .. session.line:words(), "WarningMsg") end
+    session:reload(file)
+  else
+    file = session:open(path, buf)
+    M.files[buf] = file
+  end
+  wait(session, SECONDS_TO_OPEN, function()
+    return file.is_filled and not file.is_reloading or not is_open and (file.refusal or file.twin)
+  end)
   if file.twin then return vim.schedule(function() M.show_twin(buf, file.twin) end) end
-  if file.refusal or session.over then error(("sulgrevad: %s: %s"):format(path, file.refusal or session.over), 0) end
-  if file.is_filled then session_module().welcome(file) else say(path .. " comes once the host answers", "WarningMsg") end
-end
-
--- :e of a file that is open: its text comes from the host's disk.
-function M.read_again(file)
-  local session = file.session
-  session:go_on()
-  if session.line:is_late() then return say("the file is not read anew: " .. session.line:words(), "WarningMsg") end
-  session:reload(file)
-  wait(session, SECONDS_TO_OPEN, function() return file.is_filled and not file.is_reloading end)
-  session_module().welcome(file)
+  if file.is_filled then return file:welcome() end
+  local why = not is_open and file.refusal or session.over
+  if why then fail("%s: %s", path, why) end
+  say(path .. " comes once the host answers", "WarningMsg")
 end
 
 -- The file of this buffer is in another one already.
@@ -114,19 +110,19 @@ end
 
 -- BufWriteCmd: has the host write the file. It is shown as modified until the host has done so.
 function M.write(buf, name)
-  local file = file_of(buf)
-  if not file or not file.is_filled then error("sulgrevad: not written: the file is not there", 0) end
+  local file = M.files[buf]
+  if not file or not file.is_filled then fail "not written: the file is not there" end
   local session = file.session
-  if name ~= api.nvim_buf_get_name(buf) then error("sulgrevad: not written: a file of the host keeps its name", 0) end
-  if session.over then error("sulgrevad: not written: " .. session.over .. "; :w NAME writes it here", 0) end
-  session:write(file)
+  if name ~= api.nvim_buf_get_name(buf) then fail "not written: a file of the host keeps its name" end
+  if not session.over then session:write(file) end -- which may end it
+  if session.over then fail("not written: %s; :w NAME writes it here", session.over) end
   if is_exiting() then
     wait(session, SECONDS_TO_WRITE, function() return not file.writing end)
-    if vim.bo[buf].modified then error(("sulgrevad: %s is not written"):format(file.path), 0) end
+    if vim.bo[buf].modified then fail("%s is not written", file.path) end
     return
   end
-  if session.line:is_late() then say(("%s is written once the host answers"):format(file.path), "WarningMsg") end
-  vim.bo[buf].modified = false -- else the command counts as failed
+  if file.writing and session.line:is_late() then say(("%s is written once the host answers"):format(file.path), "WarningMsg") end
+  vim.bo[buf].modified = not file.writing -- a command that leaves it modified counts as failed
   session:wake() -- which says what is true
 end
 
@@ -137,25 +133,17 @@ function M.delete(buf)
   if file then file.session:close(file) end
 end
 
---## What the host may not have when Neovim ends
-
--- Ends a session. Words about what the host may not have, or nil.
-local function leave(session)
-  local why = session:leave()
-  if not why then return end
-  local words = "%s: %s; the session stays there: :Sulgrevad %s --take %s"
-  local told = { words:format(session.label, why, session.command, session.line.name) }
-  for path, copy in pairs(session:keep_copies()) do
-    told[#told + 1] = copy and ("the text of %s is in %s"):format(path, copy) or ("no file can be written here for " .. path)
-  end
-  return table.concat(told, "\n")
-end
-
--- VimLeavePre: the sessions end.
+-- VimLeavePre: the sessions end. What a host may not have then is kept here.
 function M.leave()
   for _, session in pairs(M.sessions) do
-    local told = leave(session)
-    if told then io.stderr:write("sulgrevad: " .. told .. "\n") end
+    local why = session:leave()
+    if why then
+      local words = "sulgrevad: %s: %s; the session stays there: :Sulgrevad %s --take %s\n"
+      io.stderr:write(words:format(session.label, why, session.command, session.line.name))
+      for path, copy in pairs(session:keep_copies()) do
+        io.stderr:write((copy and "the text of %s is in %s\n" or "no file can be written here for %s\n"):format(path, copy))
+      end
+    end
   end
 end
 
@@ -171,19 +159,16 @@ end
 -- :Sulgrevad COMMAND.. samhost PATH, or COMMAND.. samhost --take [NAME]
 function M.start(words)
   local command, rest = parse(words .. " ")
-  rest = rest and vim.trim(rest)
-  if not command or rest == "" then error("usage: :Sulgrevad [ssh box] samhost FILE, or samhost --take [SESSION]", 0) end
+  rest = vim.trim(rest or "")
+  if rest == "" then fail "usage: :Sulgrevad [ssh box] samhost FILE, or samhost --take [SESSION]" end
   local takes = rest:match "^%-%-take%s*(%x*)$"
-  if not takes then
-    local session = session_of(command)
-    return vim.cmd("edit " .. vim.fn.fnameescape(("sulgrevad://%s/%s"):format(session.label, rest)))
-  end
   local session = session_of(command, takes)
+  if not takes then return vim.cmd("edit " .. vim.fn.fnameescape(("sulgrevad://%s/%s"):format(session.label, rest))) end
   wait(session, SECONDS_TO_OPEN, function()
     local state = session:state()
     return session.is_named and not state.command_locked and state.tags > 1
   end)
-  if session.over then error("sulgrevad: " .. session.over, 0) end
+  if session.over then fail("%s", session.over) end
   session:show_all()
 end
 
@@ -192,8 +177,7 @@ function M.complete(lead, line, position)
   local command, path = parse((line:sub(1, position):gsub("^.-Sulgrevad%s+", "")))
   if not command or path == "" and lead ~= "" then return vim.fn.getcompletion(lead, "shellcmd") end
   local session, names = session_of(command), nil
-  session:request(require("sulgrevad.library").C.SAM_NOTE_COMPLETE, { path = path }, function(note) names = note.path end)
-  session:go_on()
+  session:request(require("sulgrevad.library").C.SAM_NOTE_COMPLETE, 0, path, function(note) names = note.path end)
   wait(session, SECONDS_TO_COMPLETE, function() return names end)
   local folder, found = path:match "^(.*/)" or "", {}
   for name in (names or ""):gmatch "[^\n]+" do
@@ -204,16 +188,13 @@ end
 
 -- :SulgrevadRun LINE: runs a command line of sam on the buffer, from its cursor on, or on the lines of a range.
 function M.run(options)
-  local file = file_of(0)
-  if not file or not file.is_filled then error("sulgrevad: the buffer is of no file of a host", 0) end
-  if file.session.over then error("sulgrevad: " .. file.session.over, 0) end
-  if options.args:find "\n" then error("sulgrevad: one line at a time", 0) end
+  local file = M.files[api.nvim_get_current_buf()]
+  if not file or not file.is_filled then fail "the buffer is of no file of a host" end
+  if file.session.over then fail("%s", file.session.over) end
+  if options.args:find "\n" then fail "one line at a time" end
   local row, column = unpack(api.nvim_win_get_cursor(0))
-  if options.range > 0 then
-    file.session:run(file, options.args, { options.line1 - 1, 0 }, { options.line2, 0 })
-  else
-    file.session:run(file, options.args, { row - 1, column })
-  end
+  local is_range = options.range > 0
+  file.session:run(file, options.args, is_range and { options.line1 - 1, 0 } or { row - 1, column }, is_range and { options.line2, 0 })
 end
 
 -- :SulgrevadReconnect: tries lost lines at once.
@@ -226,7 +207,8 @@ end
 
 -- The statusline's part: how the line of the buffer's file is, or that it is being written; else "".
 function M.status(buf)
-  local file = file_of(buf or 0)
+  if not buf or buf == 0 then buf = api.nvim_get_current_buf() end
+  local file = M.files[buf]
   if not file then return "" end
   local words = file.session.over or file.session.line:words()
   return words ~= "" and ("[%s]"):format(words) or file.writing and "[writing]" or ""

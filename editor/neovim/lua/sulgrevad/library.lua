@@ -38,6 +38,8 @@ end
 -- What calls hand out stands in these until the next call.
 M.MOST_BYTES = 65536
 M.bytes = ffi.new("uint8_t[?]", M.MOST_BYTES)
+M.MOST_CELLS = M.MOST_BYTES / ffi.sizeof "uint32_t"
+M.cells = ffi.cast("uint32_t *", M.bytes)
 M.size, M.place, M.count, M.truth = ffi.new "size_t[1]", ffi.new "uint32_t[1]", ffi.new "uint64_t[1]", ffi.new "bool[1]"
 M.told, M.did, M.splice, M.event = ffi.new "sam_client_event[1]", ffi.new "sam_did", ffi.new "sam_splice", ffi.new "sam_event"
 M.file, M.state, M.note, M.details = ffi.new "sam_file", ffi.new "sam_state", ffi.new "sam_note", ffi.new "sam_line_details"

@@ -1,29 +1,26 @@
--- The connections of a client to samhost, one after another: processes that carry its bytes, as `ssh box samhost --attach NAME`. The client
--- says when to connect and when to give up, and keeps what the host has not acknowledged.
+-- The connections of a client to samhost, one after another: jobs that carry its bytes, as `ssh box samhost --attach NAME`. The client says
+-- when to connect and when to give up, and keeps what the host has not acknowledged.
 local ffi = require "ffi"
-local uv = vim.loop
+local api, uv, fn = vim.api, vim.loop, vim.fn
 local library = require "sulgrevad.library"
 local C, must, try, bytes, size, count = library.C, library.must, library.try, library.bytes, library.size, library.count
 
-local M = {}
-local Line = {}
+local M, Line = {}, {}
 Line.__index = Line
 
 local SECONDS_LATE = 2 -- after which an answer counts as late
-local MILLISECONDS_OF_ERRORS = 2000 -- for which the words of a command that has ended are waited for
-local MOST_IN_PIPE = 65536 -- bytes that wait in the pipe to the host
 local MOST_TOLD = 4096 -- bytes of a line on standard error
+local SWAPPED = { ["\0"] = "\n", ["\n"] = "\0" } -- Neovim hands out lines, in which a zero is a newline
 
 function M.now() return math.floor(uv.hrtime() / 1e6) end
 
 -- Makes a client, and its line to a host that a shell's line `command` runs; `takes` is nil, or the name of another terminal's session,
--- perhaps empty. `hear` is called with "coming" before the client gets bytes, with "bytes" behind them, with "told" and words of the
--- command, and with "over" and why, once no connection comes any more.
-function M.new(command, takes, hear)
+-- perhaps empty. The session goes on before and after bytes come, says words of the command, and is told when no connection comes any more.
+function M.new(session, command, takes)
   local id = assert(uv.random(library.number.SAM_LINK_ID_BYTES))
   local line = setmetatable({
-    client = ffi.gc(ffi.new "sam_client", C.sam_client_free), command = command, takes = takes, hear = hear, folder = uv.cwd(), told = "",
-    name = id:sub(1, 8):gsub(".", function(byte) return ("%02x"):format(byte:byte()) end),
+    client = ffi.gc(ffi.new "sam_client", C.sam_client_free), session = session, command = command, takes = takes, folder = uv.cwd(),
+    told = "", name = id:sub(1, 8):gsub(".", function(byte) return ("%02x"):format(byte:byte()) end),
   }, Line)
   must("client_new", line.client, id, takes ~= nil, M.now())
   return line
@@ -38,7 +35,6 @@ end
 
 -- Does what the clock says.
 function Line:tick()
-  if self.ended_at and M.now() - self.ended_at > MILLISECONDS_OF_ERRORS then self:ended() end
   while not self.why do
     must("client_tick", self.client, M.now(), library.place)
     local tick = library.place[0]
@@ -53,38 +49,28 @@ function Line:connect()
   local is_known = self:details().is_known
   local words = is_known and "--attach " .. self.name or self.takes and "--take " .. self.takes or "--serve " .. self.name
   local quietly = is_known and "export SSH_ASKPASS_REQUIRE=never; " or "" -- no window asks amid the user's typing
-  local input, output, errors, process = uv.new_pipe(), uv.new_pipe(), uv.new_pipe(), nil
-  process = uv.spawn("/bin/sh", {
-    args = { "-c", quietly .. "exec " .. self.command .. " " .. words }, stdio = { input, output, errors },
-    cwd = self.folder, detached = true, -- without the screen, on which ssh would ask
-  }, function() process:close() end)
-  if not process then
-    for _, pipe in ipairs { input, output, errors } do pipe:close() end
+  local function of_newest(act)
+    return function(job, data)
+      if job == self.job then act(self, data) end
+    end
+  end
+  local is_made, job = pcall(fn.jobstart, { "/bin/sh", "-c", quietly .. "exec " .. self.command .. " " .. words }, {
+    on_stdout = of_newest(self.came), on_stderr = of_newest(self.tell), on_exit = of_newest(self.ended),
+    cwd = self.folder, detach = true, -- without the screen, on which ssh would ask
+  })
+  if not is_made or job <= 0 then
     must("client_not_connected", self.client, M.now())
     return self:broke "no process can be made"
   end
   must("client_connected", self.client, M.now(), count)
-  self.pipe, self.process, self.attempt, self.errors_end = input, process, tonumber(count[0]), false
-  self:read(output, self.came)
-  self:read(errors, self.tell)
-end
-
--- Hands what comes on a pipe of the newest connection to a method.
-function Line:read(pipe, came)
-  local attempt = self.attempt
-  pipe:read_start(vim.schedule_wrap(function(_, data)
-    if not data and not pipe:is_closing() then pipe:close() end
-    if attempt == self.attempt and self.pipe and not self.why then came(self, data) end
-  end))
+  self.job, self.attempt = job, count[0]
 end
 
 -- Gives up the connection, or with `is_gentle` what comes on it alone, so that the last bytes arrive.
 function Line:drop(is_gentle)
-  if not self.pipe then return end
-  local pipe = self.pipe
-  if is_gentle then pipe:shutdown(function() pipe:close() end) else pipe:close() end
-  if not is_gentle and not self.process:is_closing() then self.process:kill "sigkill" end
-  self.pipe, self.process, self.ended_at = nil, nil, nil
+  if not self.job then return end
+  if is_gentle then pcall(fn.chanclose, self.job, "stdin") else fn.jobstop(self.job) end
+  self.job = nil
   must("client_broken", self.client, self.attempt, M.now())
 end
 
@@ -99,7 +85,7 @@ function Line:lose(why, is_gentle)
   if self.why then return end
   self.why = why
   self:drop(is_gentle)
-  self.hear("over", why)
+  self.session:end_here(why)
 end
 
 -- Tries a line that is lost or silent at once.
@@ -109,39 +95,39 @@ end
 
 --## Bytes
 
--- Gives the pipe as much as it takes now.
+-- Gives the job all that there is to send.
 function Line:push()
-  while self.pipe and self.pipe:get_write_queue_size() < MOST_IN_PIPE do
+  while self.job do
     local status = try("client_take_out", self.client, self.attempt, bytes, library.MOST_BYTES, size)
     if status ~= 0 or size[0] == 0 then return end
-    self.pipe:write(ffi.string(bytes, size[0]), vim.schedule_wrap(function() self:push() end))
+    pcall(api.nvim_chan_send, self.job, ffi.string(bytes, size[0])) -- one that takes nothing has ended, and is told of
   end
 end
 
--- Bytes have come, or nil: the connection has ended.
+-- Bytes have come.
 function Line:came(data)
-  self.hear "coming"
-  if data then
-    local status = try("client_receive", self.client, self.attempt, data, #data, M.now())
-    if self:details().state == C.SAM_LINE_LOST then return self:lose(library.words(status)) end
-    if status ~= 0 then self:broke(library.words(status)) end
-  else
-    self.ended_at = M.now()
-    if self.errors_end or self:details().is_known then self:ended() end
-  end
-  self.hear "bytes"
+  data = table.concat(data, "\0"):gsub("[%z\n]", SWAPPED)
+  if data == "" then return end -- their end, soon that of the job
+  self.session:go_on()
+  self.session.is_idle = false
+  local status = try("client_receive", self.client, self.attempt, data, #data, M.now())
+  if self:details().state == C.SAM_LINE_LOST then return self:lose(library.words(status)) end
+  if status ~= 0 then self:broke(library.words(status)) end
+  self.session:go_on()
 end
 
-function Line:ended() self:broke(self.told ~= "" and self.told or "the host is gone") end
+-- The job has ended.
+function Line:ended()
+  self:broke(self.told ~= "" and self.told or "the host is gone")
+  self.session:go_on()
+end
 
--- A program of the line has written to standard error, or has closed it (nil). A line is told once, however many connections fail alike.
+-- The job has written to standard error. A line is told once, however many connections fail alike.
 function Line:tell(data)
-  self.errors_end = not data
-  for told in (data or ""):gmatch "[^\r\n]+" do
-    if told ~= self.told then self.hear("told", told:sub(1, MOST_TOLD)) end
+  for told in table.concat(data, "\n"):gmatch "[^\r\n]+" do
+    if told ~= self.told then self.session.say(told:sub(1, MOST_TOLD)) end
     self.told = told
   end
-  if self.errors_end and self.ended_at then self:came() end
 end
 
 --## How the line is
@@ -163,7 +149,7 @@ function Line:words()
   if self.why then return self.why end
   if not self:is_broken() then return self:is_late() and ("no answer for %d s"):format(self:silence()) or "" end
   local goes_on = "connecting"
-  if not self.pipe and try("client_due_in", self.client, M.now(), count) == 0 then
+  if not self.job and try("client_due_in", self.client, M.now(), count) == 0 then
     goes_on = ("again in %d s"):format(math.ceil(tonumber(count[0]) / 1000))
   end
   return ("LINE LOST %d s, %s"):format(self:silence(), goes_on)

@@ -1,5 +1,5 @@
 -- A session with a host: the library's client, the connections that carry its bytes, and the files, each with its buffer. The client
--- decides what waits, what is sent and when to connect; here stands what Neovim shows of it, and what samhost says in its messages.
+-- decides what waits, what is sent and loaded, and when to connect; here stands what Neovim shows of it.
 local ffi = require "ffi"
 local api, uv = vim.api, vim.loop
 local copies = require "sulgrevad.copies"
@@ -7,36 +7,35 @@ local files = require "sulgrevad.file"
 local library = require "sulgrevad.library"
 local lines = require "sulgrevad.line"
 local text = require "sulgrevad.text"
-local C, bytes, size, truth = library.C, library.bytes, library.size, library.truth
+local C, bytes, size, truth, now = library.C, library.bytes, library.size, library.truth, lines.now
 
-local M = {}
-local Session = {}
+local M, Session = {}, {}
 Session.__index = Session
 
 local VERSION, MESSAGES = 2, 1 -- of the core protocol, and of the session's messages
-local MOST_RUNES = 1000000 -- of a text
-local MOST_TYPED = 512 -- runes of a command line that are typed at once
+local MOST_RUNES, MOST_TYPED = library.number.SAM_MOST_RUNES, library.number.SAM_MOST_IN_TYPE -- of a text, and of what is typed at once
 local TICK = 500 -- milliseconds after which the clock is looked at again
 local SECONDS_UNKEPT = 10 -- of a lost line, until what the host may not have is kept here again
 local SECONDS_TO_LEAVE = 10 -- for which the end of Neovim waits for a host that answers
 local NAME = "^%x%x%x%x%x%x%x%x%x%x%x%x%x%x%x%x$" -- of a session: it becomes a word of a command
-local UNFINISHED, BAD_KIND = tonumber(C.SAM_UNFINISHED), tonumber(C.SAM_NOTE_BAD_KIND)
-local IDLE, BUSY, STEPPED, REFUSED, NOTE = 0, 1, 2, 3, 4 -- of enum sam_client_event
-local now = lines.now
+local GAP = 0xFFFFFFFF -- SAM_GAP: a rune that is not loaded
 
--- Shows words for people.
+-- Shows words for people. Neovim would end them at U+0000.
 function M.say(words, highlight)
-  vim.schedule(function() api.nvim_echo({ { "sulgrevad: " .. words, highlight } }, true, {}) end)
+  words = "sulgrevad: " .. words:gsub("%z", "^@")
+  vim.schedule(function() api.nvim_echo({ { words, highlight } }, true, {}) end)
 end
 
 -- Begins a session: `command` runs samhost; `takes` is the name of another terminal's session, perhaps empty, or nil. `new_file` makes a
 -- file with a buffer, of the session and a path, where another program wants one shown.
 function M.begin(label, command, takes, new_file)
   local session = setmetatable({
-    label = label, command = command, new_file = new_file, say = M.say, files = {}, answers = {}, requests = 0, loading = {}, hidden = {},
-    waiting = {}, runs = {}, copies = {}, kept_at = 0,
+    label = label, command = command, new_file = new_file, say = M.say, files = {}, hidden = {}, copies = {}, kept_at = 0, prints = {},
+    answers = {}, -- by the numbers of tasks: what is called with the host's answer, or with nil where none comes
+    runs = {}, -- by the numbers of requests: command lines
+    waiting = {}, -- what is done once the client rests and a condition holds
   }, Session)
-  session.line = lines.new(command, takes, function(what, value) session:hear(what, value) end)
+  session.line = lines.new(session, command, takes)
   session.client = session.line.client
   session:ask(C.SAM_EVENT_OFFER_VERSION)
   session:ask(C.SAM_EVENT_OPEN_CMD)
@@ -67,26 +66,21 @@ function Session:ask(kind, tag, start, number, words)
   local event = library.event
   event.kind, event.tag, event.start, event.number, event.version = kind, tag or 0, start or 0, number or 0, VERSION
   self:must("ask", event, words or "", #(words or ""), library.count)
-  self.has_asked = true
   return tonumber(library.count[0])
 end
 
--- Puts a message for samhost into the line (SAM_NOTE_..).
-function Session:put_note(kind, fields)
-  local note, path = library.note, fields.path or ""
-  ffi.fill(note, ffi.sizeof(note))
-  note.kind, note.request, note.tag, note.number, note.path_len = kind, fields.request or 0, fields.tag or 0, fields.number or 0, #path
-  library.must("note_write", note, path, "", "", bytes, library.MOST_BYTES, size)
-  self:must("put_note", bytes, size[0], now())
-  self.has_asked = true
+-- Asks the host's program (SAM_NOTE_..). `answer` is called with its answer.
+function Session:request(kind, tag, path, answer)
+  self:must("begin", kind, tag, path, #path, now(), library.place)
+  self.answers[library.place[0]] = answer
+  self:go_on()
 end
 
--- Puts a request, whose answer is given to `answer`. Returns its number.
-function Session:request(kind, fields, answer)
-  self.requests = self.requests + 1
-  fields.request, self.answers[self.requests] = self.requests, answer
-  self:put_note(kind, fields)
-  return self.requests
+-- Has what a task waits for be done with its answer, or nil.
+function Session:answer(task, note)
+  local answer = self.answers[task]
+  self.answers[task] = nil
+  if answer then answer(note) end
 end
 
 -- Goes on with all that waits, as soon as Neovim is idle.
@@ -104,7 +98,6 @@ function Session:go_on()
     self.line:tick()
     while not self.over and self:advance() do end
     if self.over then return end
-    self:must("expect", self:is_waiting(), now())
     self.line:push()
     self:tell_line()
   end, function(why) return tostring(why) .. (vim.o.verbose > 0 and debug.traceback() or "") end)
@@ -116,13 +109,14 @@ end
 function Session:next_event()
   local status, did = self:try("next_event", now(), library.told, library.did), library.did
   local told = status == 0 and tonumber(library.told[0]) or nil
-  self.is_idle = told == IDLE
-  if told == STEPPED then
+  self.is_idle = told == C.SAM_CLIENT_IDLE
+  if told == C.SAM_CLIENT_STEPPED then
     self:take_step(did)
-  elseif told == REFUSED then
-    self:refuse_run(tonumber(did.request))
+  elseif told == C.SAM_CLIENT_REFUSED then
+    self.runs[tonumber(did.request)] = nil
     M.say(library.words(did.why), "ErrorMsg")
-  elseif status ~= 0 and status ~= UNFINISHED then
+    self:answer(did.task)
+  elseif status ~= 0 and status ~= C.SAM_UNFINISHED then
     error(library.words(status))
   end
   return told
@@ -130,8 +124,10 @@ end
 
 -- Has the client put the edit that was told, if it can, so that few wait. Nothing of the host is left to be taken, so no text changes.
 function Session:put_edit()
-  local told = self.is_idle and BUSY or nil
-  while told == BUSY or told == STEPPED or told == REFUSED do told = self:next_event() end
+  if not self.is_idle then return end
+  repeat
+    local told = self:next_event()
+  until told ~= C.SAM_CLIENT_BUSY and told ~= C.SAM_CLIENT_STEPPED and told ~= C.SAM_CLIENT_REFUSED
 end
 
 -- Tells the client what the user changed, and takes one thing that it tells. Returns whether there may be more.
@@ -139,90 +135,68 @@ function Session:advance()
   for _, file in pairs(self.files) do
     if file:is_touched() then file:tell() end
   end
-  local told = self:next_event()
-  if told == STEPPED then return true end
+  local told, task = self:next_event(), library.did.task
+  if told == C.SAM_CLIENT_STEPPED then return true end
   for _, file in pairs(self.files) do file:settle() end
-  if told == IDLE then return self:rest() end
-  if told == NOTE then self:meet(self:read_note()) end
+  if told == C.SAM_CLIENT_IDLE then return self:rest() end
+  if told == C.SAM_CLIENT_ANSWERED then self:answer(task, self:read_note()) end
+  if told == C.SAM_CLIENT_NOTE then self:meet(self:read_note()) end
   return told ~= nil -- else it goes on with the next tick
 end
 
 -- Takes a step with its splices. Those of the command file are what a line prints, or the line itself.
 function Session:take_step(did)
-  local splice = library.splice
+  local splice, request = library.splice, tonumber(did.request)
   while self:try("next_splice", splice) == 0 do
-    local file, is_new = self.files[splice.tag], splice.kind == C.SAM_SPLICE_CAME
-    if splice.tag == 0 and is_new and did.step == C.SAM_STEP_RECEIVED then
+    local file = self.files[splice.tag]
+    if file and splice.kind ~= C.SAM_SPLICE_EMPTIED then file:moved() end
+    if splice.tag == 0 and splice.kind == C.SAM_SPLICE_CAME and did.step == C.SAM_STEP_RECEIVED then
       self:print(splice.place, splice.count)
-    elseif file and splice.kind ~= C.SAM_SPLICE_EMPTIED then
-      file:take(splice.place, is_new and 0 or splice.count, splice.kind == C.SAM_SPLICE_WENT and 0 or splice.count)
     end
   end
-  if did.step == C.SAM_STEP_ACTED and did.tag == 0 and did.came > 0 then
-    self.is_running, self.has_printed = true, false
+  if self.runs[request] then
+    self.running, self.runs[request] = self.runs[request], nil
   elseif did.step == C.SAM_STEP_RECEIVED and did.kind == C.SAM_KIND_HUNLOCK then
-    for _, other in pairs(self.files) do other:settle() end -- the next line's changes are a step of undo of their own
-    if self.is_running then self:end_run(table.remove(self.runs, 1)) end
-    self.is_running = false
+    for _, file in pairs(self.files) do file:settle() end -- the next line's changes are a step of undo of their own
+    if self.running then self:end_run(self.running) end
+    self.running = nil
   end
 end
 
--- So many runes of a file's shown text from a place on, or all, up to the first that is not loaded.
-function Session:shown(tag, place, count)
-  local parts, runes = {}, library.place
-  place, count = place or 0, count or MOST_RUNES
+-- The shown text of a file from a place on, without what is not loaded; and a list of these holes, each with a `place` and a `count`.
+function Session:shown(tag, from)
+  local parts, holes, place, count = {}, {}, from or 0, library.place
   repeat
-    self:must("text", tag, place, bytes, math.min(library.MOST_BYTES, 4 * count), size, runes)
-    local piece, found = ffi.string(bytes, size[0]), runes[0]
-    if found > count then piece, found = piece:sub(1, text.size(piece, count)), count end
-    parts[#parts + 1] = piece
-    place, count = place + found, count - found
-  until found == 0 or count == 0
-  return table.concat(parts)
+    self:must("text", tag, place, bytes, library.MOST_BYTES, size, count)
+    local found, gap = count[0], 0
+    parts[#parts + 1], place = ffi.string(bytes, size[0]), place + found
+    if found == 0 then
+      self:must("read", tag, place, library.cells, library.MOST_CELLS, count)
+      while gap < count[0] and library.cells[gap] == GAP do gap = gap + 1 end
+      if gap > 0 then holes[#holes + 1] = { place = place, count = gap } end
+      place = place + gap
+    end
+  until found + gap == 0
+  return table.concat(parts), holes
 end
 
--- Whether a file is open and loaded.
-function Session:is_here(tag) return self:file_state(tag).is_open and self:is_loaded(tag) end
-
--- Whether all of an open file is loaded. What isn't is asked for.
-function Session:is_loaded(tag)
-  if self:try("first_gap", tag, 0, library.place) == 0 then
-    if not self.loading[tag] then self:ask(C.SAM_EVENT_LOAD, tag, 0, MOST_RUNES) end
-    self.loading[tag] = true
-    return false
-  end
-  if self.loading[tag] then self:ask(C.SAM_EVENT_VIEW, tag) end -- else what the host puts in is asked for by the terminal, bit by bit
-  self.loading[tag] = nil
-  return true
-end
-
--- Whether an answer of the host is waited for: to a message, or by a lock.
-function Session:is_waiting()
-  if next(self.answers) or #self.runs > 0 or self:state().command_locked or library.state.held > 0 then return true end
-  for tag in pairs(self.files) do
-    if self:file_state(tag).is_locked then return true end
-  end
-  return false
+-- Whether a file is open and loaded. As long as the answer that opens it locks it, its text may be still to come.
+function Session:is_here(tag)
+  local state = self:file_state(tag)
+  return state.is_open and not state.is_locked and self:try("first_gap", tag, 0, library.place) ~= 0
 end
 
 -- Whether the host has all that was done here, and has done it.
 function Session:has_all()
-  for _, file in pairs(self.files) do
-    if file:is_touched() or file.writing or file.is_reloading then return false end
+  if next(self.answers) or self:state().command_locked then return false end
+  for tag, file in pairs(self.files) do
+    if file:is_touched() or file.is_reloading or self:file_state(tag).is_locked then return false end
   end
   self:must("has_all", truth)
-  return truth[0] and not self:is_waiting()
+  return truth[0]
 end
 
 --## The line
-
--- Something comes of the line.
-function Session:hear(what, value)
-  if what == "told" then return M.say(value) end
-  if what == "over" then return self:end_here(value) end
-  self:go_on()
-  self.is_idle = self.is_idle and what ~= "coming"
-end
 
 -- Says that the line was lost, or is back, and has the statusline say how it is.
 function Session:tell_line()
@@ -234,12 +208,6 @@ function Session:tell_line()
   self.shown_words = words
 end
 
--- The clock has gone on.
-function Session:tick()
-  self:go_on()
-  if not self.over then self:keep_meanwhile() end
-end
-
 --## What samhost says
 
 -- The fields of the message that came, or nil where it is of a later version.
@@ -247,20 +215,18 @@ function Session:read_note()
   local note = library.note
   self:must("note", bytes, library.MOST_BYTES, size)
   local status = library.try("note_read", bytes, size[0], note)
-  if status == BAD_KIND then return nil end
+  if status == C.SAM_NOTE_BAD_KIND then return nil end
   if status ~= 0 then error(library.words(status)) end
   local function part(at, length) return ffi.string(bytes + at, length) end
   return {
-    kind = note.kind, code = note.code, tag = note.tag, request = note.request, number = tonumber(note.number),
+    kind = note.kind, code = note.code, tag = note.tag, number = tonumber(note.number),
     path = part(note.path_at, note.path_len), text = part(note.text_at, note.text_len),
   }
 end
 
--- Does what a message says. Where nothing is to be done its words are shown.
+-- Does what a message says that answers nothing. Where nothing is to be done its words are shown.
 function Session:meet(note)
   if not note then return end
-  local answer = self.answers[note.request]
-  self.answers[note.request] = nil
   if note.kind == C.SAM_NOTE_SESSION then
     if note.number ~= MESSAGES or not note.path:find(NAME) then return self.line:lose "samhost there is of another version" end
     self.line.name, self.is_named = note.path, true
@@ -270,28 +236,15 @@ function Session:meet(note)
     self.line:lose("the session is over", true)
   elseif note.kind == C.SAM_NOTE_TAKEN_OVER then
     self.line:lose("another terminal has taken the session over: " .. note.text)
-  elseif note.kind == C.SAM_NOTE_SAVED or note.kind == C.SAM_NOTE_NOT_SAVED then
-    self:meet_written(note)
-  elseif answer then
-    answer(note)
   elseif note.kind == C.SAM_NOTE_ANEW then
-    self.hidden[note.number] = true -- it is for terminals alone
+    self.hidden[note.number] = true -- it is none of the user's
   elseif note.kind == C.SAM_NOTE_SHOWN then
     self:ask(C.SAM_EVENT_OFFER_VERSION)
     self:once(function() return self:file_state(note.tag).is_known end, function() self:show_file(note.tag, note.number) end)
   elseif note.text ~= "" then
-    M.say(note.text, note.kind == C.SAM_NOTE_LOST and "ErrorMsg" or nil)
+    local is_error = note.kind == C.SAM_NOTE_LOST or note.kind == C.SAM_NOTE_NOT_SAVED
+    M.say(note.text, is_error and "ErrorMsg" or nil)
   end
-end
-
--- Says and notes what became of a write.
-function Session:meet_written(note)
-  local file, is_saved = self.files[note.tag], note.kind == C.SAM_NOTE_SAVED
-  if file and note.request == file.writing then file.writing = nil end
-  local is_plain = is_saved and note.code == C.SAM_NOTE_NO_CODE
-  if is_plain and note.request == 0 then return end -- nobody asked for it
-  local words = is_plain and ("%s: %s is written"):format(self.label, file and file.path or note.path) or note.text
-  M.say(words, not is_saved and "ErrorMsg" or nil)
 end
 
 --## Files
@@ -299,30 +252,40 @@ end
 -- Does something once the client rests and a condition holds.
 function Session:once(holds, act) table.insert(self.waiting, { holds = holds, act = act }) end
 
--- The client does nothing by itself. Returns whether it has something to do again.
+-- The client does nothing by itself. Returns whether it may have something to do again.
 function Session:rest()
-  self.has_asked = false
+  local waiting, has_acted = self.waiting, false
   for tag, file in pairs(self.files) do
-    if self:is_here(tag) then self:attend(file) end
+    local was_here = file.same and self:file_state(tag).is_open
+    if (was_here or self:is_here(tag)) and self:attend(file) then has_acted = true end
   end
-  local waiting = self.waiting
   self.waiting = {}
   for _, one in ipairs(waiting) do
     if one.holds() then
       one.act()
-      self.has_asked = true
+      has_acted = true
     else
       table.insert(self.waiting, one)
     end
   end
-  return self.has_asked
+  return has_acted
+end
+
+-- Goes on with a file that is open, and was loaded. Returns whether it has something to tell.
+function Session:attend(file)
+  if file.is_closing or not api.nvim_buf_is_loaded(file.buf) then return false end
+  if not file.is_filled then file:fill() end
+  self:must("is_unsaved", file.tag, truth)
+  local is_modified = truth[0] or file.writing ~= nil or file.refusal ~= nil
+  if vim.bo[file.buf].modified ~= is_modified then vim.bo[file.buf].modified = is_modified end
+  return file:try_again()
 end
 
 -- Has a buffer show the file at a path. What becomes of it shows in the file that is returned: is_filled, refusal or twin.
 function Session:open(path, buf)
   local file = files.new(self, path, buf)
   local function ask()
-    self:request(C.SAM_NOTE_OPEN, { path = path }, function(note)
+    self:request(C.SAM_NOTE_OPEN, 0, path, function(note)
       local other = self.files[note.tag]
       if note.kind ~= C.SAM_NOTE_OPENED then
         file.refusal = note.code == C.SAM_NOTE_IS_FOLDER and "it is a folder" or note.text
@@ -331,56 +294,35 @@ function Session:open(path, buf)
       elseif other then
         file.twin = other.buf
       else
-        self:adopt(file, note.tag)
+        self:open_tag(note.tag, file)
       end
     end)
   end
   ask()
-  self:go_on()
   return file
 end
 
--- The file has this tag: it is opened.
-function Session:adopt(file, tag)
-  file.tag, self.files[tag] = tag, file
-  self:open_tag(tag)
-end
-
--- Opens a file of the session, which perhaps has joined just now.
-function Session:open_tag(tag)
+-- Opens a file of the session, which perhaps has joined just now, and has all of it be loaded. `file` shows it, if that is given.
+function Session:open_tag(tag, file)
+  if file then file.tag, self.files[tag] = tag, file end
   self:ask(C.SAM_EVENT_OFFER_VERSION)
   self:ask(C.SAM_EVENT_OPEN, tag)
+  self:must("see", tag, 0, MOST_RUNES)
 end
 
--- Goes on with a file that is open and loaded.
-function Session:attend(file)
-  if file.is_closing or not api.nvim_buf_is_loaded(file.buf) then return end
-  if not file.is_filled then
-    file:fill()
-    vim.schedule(function() M.welcome(file) end)
-  end
-  if file.is_refused_locked and self:file_state(file.tag).is_free then
-    file.is_refused_locked, file.tick, self.has_asked = false, nil, true -- it may fit now
-  end
-  self:must("is_unsaved", file.tag, truth)
-  local is_modified = truth[0] or file.writing ~= nil or file.refusal ~= nil
-  if vim.bo[file.buf].modified ~= is_modified then vim.bo[file.buf].modified = is_modified end
-end
-
--- Has Neovim do what it does with a file that was read, as to find its filetype.
-function M.welcome(file)
-  if not file.is_new or not api.nvim_buf_is_loaded(file.buf) then return end
-  file.is_new = false
-  api.nvim_buf_call(file.buf, function() vim.cmd "silent doautocmd BufReadPost" end)
+-- Asks that a file be closed for good.
+function Session:close_tag(tag)
+  self:must("forget", tag)
+  self:ask(C.SAM_EVENT_CLOSE, tag)
 end
 
 -- Shows a file of the session whose name is known, at a line, where that is not 0.
 function Session:show_file(tag, line)
   self:must("name", tag, bytes, library.MOST_BYTES, size)
   local path = ffi.string(bytes, size[0]) -- or the end of it
-  if not self.files[tag] then self:adopt(self.new_file(self, path), tag) end
+  if not self.files[tag] then self:open_tag(tag, self.new_file(self, path)) end
   local file = self.files[tag]
-  if line > 0 then self:once(function() return file.is_filled end, function() file:go_to(line - 1) end) end
+  if line > 0 then self:once(function() return file.is_filled end, function() file:go_to(line - 1, 0) end) end
   if vim.fn.mode() == "n" then return api.nvim_set_current_buf(file.buf) end
   M.say(("another program wants buffer %d shown"):format(file.buf))
 end
@@ -398,7 +340,7 @@ function Session:close(file)
   if self.over or not file.tag or file.is_closing or self.files[file.tag] ~= file then return end
   if file:is_touched() then file:tell() end
   file.is_closing, file.is_filled = true, false
-  self:ask(C.SAM_EVENT_CLOSE, file.tag)
+  self:close_tag(file.tag)
   self:once(function() return not self:file_state(file.tag).is_known end, function() self.files[file.tag] = nil end)
   self:go_on()
 end
@@ -409,36 +351,45 @@ function Session:write(file)
   if options.fixendofline and not options.binary and not options.endofline then options.endofline = true end
   file:tell() -- also of changes that no event has told
   if file.refusal then return M.say(("%s is not written: %s"):format(file.path, file.refusal), "ErrorMsg") end
-  local asked = self:ask(C.SAM_EVENT_WRITE, file.tag)
-  if asked ~= file.asked then file.writing = self:request(C.SAM_NOTE_WRITE, { tag = file.tag }) end -- else one that waits is this one
-  file.asked = asked
+  self:must("write", file.tag, library.place)
+  local task = library.place[0]
+  file.writing, self.answers[task] = task, function(note)
+    if file.writing == task then file.writing = nil end
+    if not note then return end
+    local is_saved = note.kind == C.SAM_NOTE_SAVED
+    local is_plain = is_saved and note.code == C.SAM_NOTE_NO_CODE
+    M.say(is_plain and ("%s: %s is written"):format(self.label, file.path) or note.text, not is_saved and "ErrorMsg" or nil)
+  end
   self:go_on()
 end
 
 -- Has the host read a file anew from its disk, as a hidden file. Its text takes the place of the buffer's; undo takes that back.
 function Session:reload(file)
   file.is_reloading = true
-  local function is_free() return self:file_state(file.tag).is_free or not file.is_filled end
+  local function is_free() return file:is_free() or not file.is_filled end
   local function accept(anew)
     if file.is_filled then
-      self:put_note(C.SAM_NOTE_RELOADED, { tag = file.tag, number = anew })
+      local note = library.note
+      ffi.fill(note, ffi.sizeof(note))
+      note.kind, note.tag, note.number = C.SAM_NOTE_RELOADED, file.tag, anew
+      library.must("note_write", note, "", "", "", bytes, library.MOST_BYTES, size)
+      self:must("put_note", bytes, size[0], now())
       self:ask(C.SAM_EVENT_WRITE, file.tag)
     end
-    self:ask(C.SAM_EVENT_CLOSE, anew)
+    self:close_tag(anew)
     self:once(is_free, function() file.is_reloading = false end)
   end
-  self:request(C.SAM_NOTE_RELOAD, { tag = file.tag }, function(note)
+  self:request(C.SAM_NOTE_RELOAD, file.tag, "", function(note)
     if note.kind ~= C.SAM_NOTE_ANEW then
       file.is_reloading = false
       return M.say(("%s is not read anew: %s"):format(file.path, note.text), "ErrorMsg")
     end
     self:open_tag(note.number)
     self:once(function() return self:is_here(note.number) and is_free() end, function()
-      if file.is_filled then file:become(self:shown(note.number)) end
+      if file.is_filled then file:become((self:shown(note.number))) end
       self:once(is_free, function() accept(note.number) end) -- the client has put it
     end)
   end)
-  self:go_on()
 end
 
 --## Command lines
@@ -447,39 +398,41 @@ end
 function Session:run(file, line, from, to)
   file:tell()
   if file.refusal then error(("sulgrevad: not run: %s: %s"):format(file.path, file.refusal), 0) end
-  local start = file:place_of(unpack(from))
+  local start, request = file:place_of(unpack(from)), nil
   self:ask(C.SAM_EVENT_SELECT, file.tag, start, to and file:place_of(unpack(to)) or start)
-  local first, last = self:ask(C.SAM_EVENT_WORK, file.tag), nil
+  self:ask(C.SAM_EVENT_WORK, file.tag)
   local typed = "\n" .. line .. "\n" -- the first newline ends what may stand there, and the last one runs the line
   while typed ~= "" do
     local count = text.size(typed, MOST_TYPED)
-    last = self:ask(C.SAM_EVENT_TYPE_CMD, 0, 0, 0, typed:sub(1, count))
+    request = self:ask(C.SAM_EVENT_TYPE_CMD, 0, 0, 0, typed:sub(1, count))
     typed = typed:sub(count + 1)
   end
-  local tick = api.nvim_buf_get_changedtick(file.buf)
-  table.insert(self.runs, { file = file, window = api.nvim_get_current_win(), tick = tick, first = first, last = last })
+  self.runs[request] = { file = file, window = api.nvim_get_current_win(), tick = api.nvim_buf_get_changedtick(file.buf) }
   self:go_on()
-end
-
--- A request was refused. If it was a part of a line, that won't be answered.
-function Session:refuse_run(request)
-  for at, run in ipairs(self.runs) do
-    if run.first <= request and request <= run.last then return table.remove(self.runs, at) end
-  end
 end
 
 -- A line is answered. If it was an address alone, its window goes there.
 function Session:end_run(run)
-  local file = run and run.file
-  if not run or self.has_printed or not file.is_filled or run.tick ~= api.nvim_buf_get_changedtick(file.buf) then return end
-  local row, column = file:spot(self:file_state(file.tag).dot_start)
+  local file = run.file
+  if run.has_printed or not file.is_filled or run.tick ~= api.nvim_buf_get_changedtick(file.buf) then return end
+  local row, column = file:spot(text.size(file.same, self:file_state(file.tag).dot_start))
   file:go_to(row, column, run.window)
 end
 
--- Shows what a line has printed, once it is loaded.
+-- Shows what lines have printed, in order, once it is loaded.
 function Session:print(place, count)
-  self.has_printed = true
-  self:once(function() return self:is_loaded(0) end, function() M.say((self:shown(0, place, count):gsub("\n$", ""))) end)
+  if self.running then self.running.has_printed = true end
+  table.insert(self.prints, { place = place, count = count })
+  if #self.prints > 1 then return end
+  self:must("see", 0, place, MOST_RUNES) -- up to the end, so with all that comes until it is shown
+  self:once(function() return self:try("first_gap", 0, place, library.place) ~= 0 end, function()
+    for _, one in ipairs(self.prints) do
+      local printed = self:shown(0, one.place)
+      M.say((printed:sub(1, text.size(printed, one.count)):gsub("\n$", "")))
+    end
+    self.prints = {}
+    self:must("forget", 0)
+  end)
 end
 
 --## What the host may not have
@@ -497,8 +450,10 @@ function Session:keep_copies()
   return kept
 end
 
--- Keeps copies while the line is lost, so that they are there if Neovim is killed. They go once the host has all.
-function Session:keep_meanwhile()
+-- The clock has gone on. While the line is lost copies are kept, so that they are there if Neovim is killed. They go once the host has all.
+function Session:tick()
+  self:go_on()
+  if self.over then return end
   local seconds = uv.hrtime() / 1e9
   if self:has_all() then
     for _, copy in pairs(self.copies) do uv.fs_unlink(copy) end
@@ -517,7 +472,6 @@ function Session:end_here(why)
   self.over = why
   self.timer:close()
   for _, file in pairs(self.files) do
-    pcall(file.finish, file)
     if file.is_filled and not has_all then vim.bo[file.buf].modified = true end
     file.writing = nil
   end

@@ -1,4 +1,4 @@
--- Texts of UTF-8: their runes, and where two of them differ.
+-- Texts of UTF-8: their runes and lines, and where two of them differ.
 local ffi = require "ffi"
 
 local M = {}
@@ -13,7 +13,7 @@ local function is_inside(byte) return byte >= 0x80 and byte < 0xC0 end -- a rune
 
 local function begins_line(bytes, at) return at == 0 or bytes[at - 1] == NEWLINE end
 
--- The number of runes of a text.
+-- The number of runes of a text. vim.str_utfindex stops at U+0000.
 function M.runes(text)
   local found, bytes = 0, bytes_of(text)
   for at = 0, #text - 1 do
@@ -50,53 +50,45 @@ local function line_ends(text)
   return ends
 end
 
--- Gives differences their places in runes of the old text.
-local function placed(changes, old)
-  local at, place = 0, 0
-  for _, change in ipairs(changes) do
-    change.start = place + M.runes(old:sub(at + 1, change.from))
-    change.last = change.start + M.runes(old:sub(change.from + 1, change.to))
-    at, place = change.to, change.last
-  end
-  return changes
-end
-
 -- The stretches in which two texts differ, ascending: bytes `from` up to `to` of the old one, which are its runes `start` up to `last`, and
 -- the `text` in their place. Where several lines differ these are compared line by line, so that what the host changes between them stays.
 -- Lines that came in come behind the line before them, if there is one: then what the host puts in before the next line can't part them.
 -- More than MOST_DIFFERENCES are one, unless `all` are wanted.
 function M.differences(old, new, all)
   if old == new then return {} end
-  local found, a, b = {}, bytes_of(old), bytes_of(new)
-  local function add(at, before, after)
+  local found, a, b, at, place = {}, bytes_of(old), bytes_of(new), 0, 0
+  local function add(begin, before, after)
     local first, i, j = trimmed(before, after)
-    local from, to, came = at + first, at + i, after:sub(first + 1, j)
+    local from, to, came = begin + first, begin + i, after:sub(first + 1, j)
     if from == to and came == "" then return end
-    local is_line = from == to and from > 0 and begins_line(a, from) and came:sub(-1) == "\n"
-    if is_line and (#found == 0 or found[#found].to < from) then from, to, came = from - 1, to - 1, "\n" .. came:sub(1, -2) end
-    found[#found + 1] = { from = from, to = to, text = came }
+    if from == to and from > at and begins_line(a, from) and came:sub(-1) == "\n" then
+      from, to, came = from - 1, to - 1, "\n" .. came:sub(1, -2)
+    end
+    local start = place + M.runes(old:sub(at + 1, from))
+    at, place = to, start + M.runes(old:sub(from + 1, to))
+    found[#found + 1] = { from = from, to = to, start = start, last = place, text = came }
   end
-  local start, i, j = trimmed(old, new)
-  while not begins_line(a, start) do start = start - 1 end
+  local first, i, j = trimmed(old, new)
+  while not begins_line(a, first) do first = first - 1 end
   while i < #old and not (begins_line(a, i) and begins_line(b, j)) do i, j = i + 1, j + 1 end
-  local before, after = old:sub(start + 1, i), new:sub(start + 1, j)
+  local before, after = old:sub(first + 1, i), new:sub(first + 1, j)
   local old_ends, new_ends = line_ends(before), line_ends(after)
   for _, hunk in ipairs(vim.diff(before, after, { result_type = "indices" })) do
-    local from, gone, at, came = unpack(hunk)
+    local from, gone, to, came = unpack(hunk)
     if gone > 0 then from = from - 1 end -- where no line goes, the hunk names the one before
-    if came > 0 then at = at - 1 end
-    local size = gone == came and 1 or math.max(gone, came) -- lines that are compared at once
-    for n = 0, math.max(gone, came) - 1, size do
-      local last, new_last = math.min(n + size, gone), math.min(n + size, came)
-      add(start + old_ends[from + n], before:sub(old_ends[from + n] + 1, old_ends[from + last]),
-        after:sub(new_ends[at + n] + 1, new_ends[at + new_last]))
+    if came > 0 then to = to - 1 end
+    local most = math.max(gone, came)
+    for n = 0, most - 1, gone == came and 1 or most do -- as many lines at once
+      local last = gone == came and n + 1 or most
+      add(first + old_ends[from + n], before:sub(old_ends[from + n] + 1, old_ends[from + math.min(last, gone)]),
+        after:sub(new_ends[to + n] + 1, new_ends[to + math.min(last, came)]))
     end
   end
   if #found > MOST_DIFFERENCES and not all then
-    found = {}
+    found, at, place = {}, 0, 0
     add(0, old, new)
   end
-  return placed(found, old)
+  return found
 end
 
 -- A byte that is not ASCII, with the bytes behind it that could belong to it: with U+FFFD in the place of each that is no UTF-8.

@@ -1,0 +1,3 @@
+pub mod LoaderLaws
+pub mod TaskLaws
+pub mod FrontLaws

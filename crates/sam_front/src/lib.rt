@@ -1,0 +1,17 @@
+//! What a front end calls: a client that knows what its host's program still has to answer, and loads texts by itself. Begin with `Front`.
+#![tactic(auto)]
+
+mod fault;
+mod front;
+mod loader;
+mod tasks;
+mod told;
+
+pub use fault::{BeginFault, WriteFault};
+pub use front::Front;
+pub use loader::{
+    BREAK, FIRST_SLICE, LEAST_SLICE, Loader, MOST_HOLES, MOST_SLICE, Next, PAGE, PAUSE, REST,
+    SLICE_TIME, Seen, Slice, Stretch,
+};
+pub use tasks::{MOST_TASKS, Task, Tasks};
+pub use told::{Order, Refused, Told};
