@@ -1,9 +1,7 @@
-/* samhost [--undo] [--times] [--] [FILE ..]: serves files to a terminal, over a link on standard input and output.
+/* samhost [--left] [--times] [--] [FILE ..]: serves files to a terminal, over a link on standard input and output.
  *
- * A FILE may be a folder, which stands for the text files below it. With --undo it has one more file, ~~undo~~, that is nowhere on disk:
- * there a terminal keeps text for undo. Before that stand the texts that earlier sessions saved, for the terminal to offer.
- *
- * With --times it says when the files were written last, by the seconds since 1970.
+ * A FILE may be a folder, which stands for the text files below it. With --left the terminal gets the texts that earlier sessions left, to
+ * offer them: each is one more file. With --times it says when the files were written last, by the seconds since 1970.
  *
  * samhost --version prints the version.
  *
@@ -40,8 +38,8 @@ enum {
 };
 
 #define USAGE                                                                                                                              \
-    "usage: samhost [--undo] [--times] [--] [FILE ..]\n"                                                                                   \
-    "       samhost --serve NAME [--undo] [--times] [--stay HOURS] [--] [FILE ..]\n"                                                       \
+    "usage: samhost [--left] [--times] [--] [FILE ..]\n"                                                                                   \
+    "       samhost --serve NAME [--left] [--times] [--stay HOURS] [--] [FILE ..]\n"                                                       \
     "       samhost --attach NAME | --take [NAME] | --end NAME | --list\n"                                                                 \
     "       samhost --open [--wait] [--session NAME] [--] FILE [+LINE]\n"                                                                  \
     "       samhost --version\n"
@@ -75,8 +73,8 @@ static int take_option(char **words, int left, enum verb *verb, struct options *
     const char *word = words[0], *next = left > 1 ? words[1] : "";
     bool has_name = is_home_name(next) && *verb == PLAIN;
 
-    if (strcmp(word, "--undo") == 0)
-        options->has_vault = true;
+    if (strcmp(word, "--left") == 0)
+        options->offers_left = true;
     else if (strcmp(word, "--times") == 0)
         options->tells_times = true;
     else if (strcmp(word, "--stay") == 0)

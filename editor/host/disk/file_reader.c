@@ -247,15 +247,3 @@ void tell_times(struct session *session)
                  "");
     }
 }
-
-int add_vault(struct session *session)
-{
-    const char *name = NAME_FOR_UNDO;
-    sam_status code = add_to_server(session, name, &(struct text){0}, &session->vault);
-
-    if (code == SAM_OK)
-        session->documents[session->vault].purpose = FOR_UNDO;
-    else
-        say("%s: %s", name, cause(error_of_status(code)));
-    return code == SAM_OK ? STATUS_OK : code == SAM_NO_MEMORY ? STATUS_MEMORY : STATUS_UNREADABLE;
-}

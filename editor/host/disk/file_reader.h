@@ -16,9 +16,6 @@ int add_files(struct session *session, char **paths, int count);
 /* Tells when the files were written last. */
 void tell_times(struct session *session);
 
-/* Adds the file for undo, which is never written or saved. Returns the exit status. */
-int add_vault(struct session *session);
-
 /* Reads a whole file into memory of the caller's; a file that isn't there is empty. What is no regular file is not opened. */
 int read_whole(const char *path, struct text *text);
 

@@ -130,7 +130,7 @@ static bool is_tag(struct session *session, uint64_t tag)
 /* Adds what stands at a path as a file of its own. */
 static int add_anew(struct session *session, uint16_t tag, const char *end, const struct text *text, uint16_t *anew)
 {
-    struct document document = {.purpose = READ_ANEW, .is_told_of = true};
+    struct document document = {.purpose = READ_ANEW};
     char *name = formatted(NAME_READ_ANEW "%u", (unsigned)tag);
     uint32_t code = SAM_NO_MEMORY;
 

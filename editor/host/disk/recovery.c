@@ -39,7 +39,7 @@ struct search {
     struct session *session;
     size_t tags;          /* of the user's files */
     struct marks folders; /* those that were looked through */
-    bool offers;          /* the terminal is offered the texts */
+    bool offers;          /* the texts become files of the session */
     int offered;          /* how many */
     int foreign;          /* copies that are another user's */
     char *first_foreign;  /* what is said of the first of them */

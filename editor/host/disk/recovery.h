@@ -6,8 +6,8 @@
 
 struct session;
 
-/* Reports what stands beside the files, and in the user's own folders, of sessions and writes that were broken off. A terminal with a file
- * for undo is offered the texts that were not written (`offers`). */
+/* Reports what stands beside the files, and in the user's own folders, of sessions and writes that were broken off. Where the session
+ * `offers` them, the texts that were not written become files of it. */
 void report_left(struct session *session, bool offers);
 
 #endif

@@ -9,7 +9,8 @@
  * is wrong behind it is torn.
  *
  * Where the file can't be written any more it loses its name, since one that lacks a step is of no use, and records are held in memory.
- * From time to time another file is tried: it gets what the old one had, and what is held, and then the name.
+ * From time to time another file is tried: it gets what the old one had, and what is held, and then the name. But where the session is kept
+ * the file keeps its name: no step comes any more, and a text may stand nowhere else.
  */
 #define _GNU_SOURCE
 #include <errno.h>
@@ -27,6 +28,7 @@
 #include "journal/journal.h"
 #include "disk/errors.h"
 #include "disk/paths.h"
+#include "journal/journal_records.h"
 #include "limits.h"
 #include "log.h"
 #include "net/event_loop.h"
@@ -104,12 +106,13 @@ void hold_journal(struct session *session, int error)
     journal->pause = FIRST_PAUSE;
     journal->due = now() + FIRST_PAUSE;
     journal->lost = error;
-    (void)unlinkat(home->folder, JOURNAL, 0);
+    if (!session->stay->is_kept)
+        (void)unlinkat(home->folder, JOURNAL, 0);
     (void)unlinkat(home->folder, NEW_JOURNAL, 0);
     sync_home(home); /* else a power cut could bring it back */
 }
 
-/* There is no journal any more, and none comes back: a record is missing. */
+/* A record is missing, so none is added any more. Unless the session is kept, there is no journal then, and none comes back. */
 static void end_journal(struct session *session, int error)
 {
     if (!session->stay->journal.is_held)
@@ -146,9 +149,40 @@ static void put_record(struct session *session, const uint8_t *body, size_t len)
         end_journal(session, error);
 }
 
+bool writes_records(const struct journal *journal)
+{
+    return journal->file >= 0;
+}
+
 bool takes_records(const struct journal *journal)
 {
-    return journal->file >= 0 || journal->is_held;
+    return writes_records(journal) || journal->is_held;
+}
+
+/* Makes room in the next record. Returns whether there is memory for that: else the record lacks nothing yet. */
+static bool has_room_in_turn(struct journal *journal, size_t more)
+{
+    bool has_some = has_room(&journal->turn, more);
+
+    journal->turn.is_short &= has_some;
+    return has_some;
+}
+
+bool has_room_for_number(struct journal *journal)
+{
+    return !takes_records(journal) || has_room_in_turn(journal, ENTRY_HEAD + sizeof(uint64_t));
+}
+
+void add_number_entry(struct session *session, enum entry kind, uint64_t number)
+{
+    struct body *turn = &session->stay->journal.turn;
+
+    if (!takes_records(&session->stay->journal))
+        return;
+    add_entry_head(turn, kind, sizeof number);
+    add_number(turn, number);
+    if (turn->is_short)
+        end_journal(session, ENOMEM);
 }
 
 void add_entry(struct session *session, enum entry kind, struct body *body)
@@ -176,10 +210,8 @@ static bool gather(struct session *session)
     size_t len;
 
     while (turn->len < MOST_IN_TURN && sam_server_record_len(session->server, &len) == SAM_OK) {
-        if (!has_room(turn, ENTRY_HEAD + len)) {
-            turn->is_short = false;
+        if (!has_room_in_turn(journal, ENTRY_HEAD + len))
             return false;
-        }
         if (sam_server_next_record(session->server, turn->bytes + turn->len + ENTRY_HEAD, len, &len) != SAM_OK)
             return false; /* can't be: there is room */
         add_entry_head(turn, ENTRY_SERVER, len);
@@ -474,19 +506,16 @@ bool is_left_alone(const struct home *home)
     struct text all = {0};
     struct record record = {.is_wrong = true};
     struct record_place first = first_record();
+    struct start start = {.longest_alone = -1};
     uint64_t random;
-    int64_t longest = -1;
     int file = openat(home->folder, JOURNAL, O_RDONLY | O_NOFOLLOW | O_CLOEXEC);
 
     bool is_read = file >= 0 && map_records(file, &all, &status) == 0 && read_head(&all, &random) == SAM_OK;
-    if (is_read && next_record(&all, random, &first, &record) && take_kind(&record) == ENTRY_START) {
-        free(take_words(&record)); /* its folder; the mode of new files and the file for undo follow */
-        (void)take_number(&record);
-        (void)take_number(&record);
-        longest = (int64_t)take_number(&record);
-    }
+    bool is_known =
+        is_read && next_record(&all, random, &first, &record) && take_kind(&record) == ENTRY_START && take_start(&record, &start);
+    free(start.folder);
     close_records(&all);
     if (file >= 0)
         close(file);
-    return !record.is_wrong && longest >= 0 && time(NULL) - status.st_mtime > longest / 1000;
+    return is_known && !record.is_wrong && start.longest_alone >= 0 && time(NULL) - status.st_mtime > start.longest_alone / 1000;
 }

@@ -24,7 +24,7 @@ struct journal {
     struct body turn;    /* the entries of the next record */
     size_t in_turn;      /* how many records of the server are among them */
     bool is_held;        /* the file can't be written: records wait in memory until another one takes all of them */
-    int old;             /* while it is held, the file that has what stands before these; it has no name any more. -1 where there is none */
+    int old;             /* while it is held, the file that has what stands before these; -1 where there is none */
     struct body held;    /* these records; before them the head, where there is no old file */
     int64_t due, pause;  /* when another file is tried, and in how many milliseconds once more if that can't be */
     int lost;            /* why it can't be written, which is still to be told; else 0 */
@@ -39,7 +39,8 @@ struct record_place {
 /* Makes a journal of this name in the folder of a session, in the place of one that is there. Where that can't be it is held. */
 void make_journal(struct session *session, const char *name);
 
-/* The file can't be written any more, so it goes: one that lacks a step is of no use. Records are held from now on. */
+/* The file can't be written any more, so it goes: one that lacks a step is of no use. It stays where the session is kept. Records are held
+ * from now on. */
 void hold_journal(struct session *session, int error);
 
 /* In how many milliseconds mend_journal is to be called; -1 where it isn't. */
@@ -73,11 +74,18 @@ int cut_journal(struct stay *stay, const struct text *all, size_t len);
 /* Has the next record be added at this place, where the whole ones end. */
 void go_on_behind(struct journal *journal, const struct record_place *end);
 
-/* Whether records are written, or held. */
+/* Whether records are written; and whether they are, or are held. */
+bool writes_records(const struct journal *journal);
 bool takes_records(const struct journal *journal);
 
 /* Puts an entry into the next record, and frees its body. */
 void add_entry(struct session *session, enum entry kind, struct body *body);
+
+/* Puts an entry that has a number as its body. */
+void add_number_entry(struct session *session, enum entry kind, uint64_t number);
+
+/* Takes the memory of the next such entry beforehand. Returns whether there is some; or true where no records are taken. */
+bool has_room_for_number(struct journal *journal);
 
 enum { MOST_IN_TURN = 1 << 20 }; /* bytes of entries behind which a record ends */
 

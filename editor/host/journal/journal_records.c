@@ -74,7 +74,6 @@ static void add_document(struct body *body, uint16_t tag, const struct document 
     add_number(body, document->is_taken);
     add_number(body, document->is_reported);
     add_number(body, document->purpose);
-    add_number(body, document->is_told_of);
     add_copy(body, &document->aside);
     for (const struct known *known = document->known; known != NULL; known = known->next)
         count++;
@@ -128,7 +127,6 @@ void take_document(struct session *session, struct record *record)
     document.is_taken = take_number(record) != 0;
     document.is_reported = take_number(record) != 0;
     document.purpose = take_purpose(record);
-    document.is_told_of = take_number(record) != 0;
     take_copy(record, &document.aside);
     take_known(record, &document);
     free_document(&session->documents[tag]);
@@ -183,22 +181,14 @@ void take_cut_copy(struct session *session, struct record *record)
     set_mark(&session->cut.aside, &session->cut.noted);
 }
 
-static void record_number(struct session *session, enum entry kind, uint64_t number)
-{
-    struct body body = {0};
-
-    add_number(&body, number);
-    add_entry(session, kind, &body);
-}
-
 void record_wanted(struct session *session, uint16_t tag, uint32_t request)
 {
-    record_number(session, ENTRY_WANTED, (uint64_t)tag << 32 | request);
+    add_number_entry(session, ENTRY_WANTED, (uint64_t)tag << 32 | request);
 }
 
 void record_answered(struct session *session, uint16_t tag)
 {
-    record_number(session, ENTRY_ANSWERED, tag);
+    add_number_entry(session, ENTRY_ANSWERED, tag);
 }
 
 void record_held(struct session *session, const struct closed *closed)
@@ -212,19 +202,15 @@ void record_held(struct session *session, const struct closed *closed)
 
 void record_freed(struct session *session, size_t place)
 {
-    record_number(session, ENTRY_FREED, place);
+    add_number_entry(session, ENTRY_FREED, place);
 }
 
 void record_ended(struct session *session, int status)
 {
-    record_number(session, ENTRY_ENDED, (uint64_t)status);
+    add_number_entry(session, ENTRY_ENDED, (uint64_t)status);
 }
 
-uint64_t form_and_version(uint32_t form, uint32_t version)
-{
-    return (uint64_t)form << 32 | version;
-}
-
+/* The form stands first, so that it is found in a journal of each form; those up to 4 have the number 1 there. */
 void record_start(struct session *session)
 {
     struct stay *stay = session->stay;
@@ -233,11 +219,10 @@ void record_start(struct session *session)
     char *folder = getcwd(NULL, 0);
 
     body.is_short = folder == NULL;
+    add_number(&body, (uint64_t)RECORDS_FORM << 32 | sam_library_version());
     add_words(&body, folder);
     add_number(&body, session->mode_of_new_files);
-    add_number(&body, session->vault);
     add_number(&body, (uint64_t)stay->longest_alone);
-    add_number(&body, form_and_version(RECORDS_FORM, sam_library_version()));
     add_raw(&body, stay->id, SAM_LINK_ID_BYTES);
     free(folder);
     add_entry(session, ENTRY_START, &body);
@@ -248,6 +233,19 @@ void record_start(struct session *session)
         record_held(session, closed);
     add_entry(session, ENTRY_BEGUN, &(struct body){0});
     settle(session);
+}
+
+bool take_start(struct record *record, struct start *start)
+{
+    uint64_t written_by = take_number(record);
+
+    *start = (struct start){.is_other = (uint32_t)written_by != sam_library_version()};
+    if (written_by >> 32 != RECORDS_FORM)
+        return false;
+    start->folder = take_words(record);
+    start->mode_of_new_files = (mode_t)take_number(record);
+    start->longest_alone = (int64_t)take_number(record);
+    return true;
 }
 
 void begin_fresh_journal(struct session *session)

@@ -5,6 +5,7 @@
 #include <stdbool.h>
 #include <stddef.h>
 #include <stdint.h>
+#include <sys/types.h>
 
 #include "journal/journal.h"
 
@@ -13,13 +14,21 @@ struct session;
 
 /* The form of the records. It grows with each change of what they say, so that no samhost takes up a session whose records it would read
  * otherwise: tests/host/host_checks/journals.py has a sum of the code that decides. */
-#define RECORDS_FORM 4
+#define RECORDS_FORM 5
 
-/* What the first record says that the others are of: the form, and the library's version. */
-uint64_t form_and_version(uint32_t form, uint32_t version);
+/* How a session began. */
+struct start {
+    bool is_other; /* another version of the library has written the records, though they are of this form */
+    char *folder;  /* the taker's; NULL where memory is out */
+    mode_t mode_of_new_files;
+    int64_t longest_alone;
+};
 
 /* Records how a session began, and its files. */
 void record_start(struct session *session);
+
+/* Takes how it began; the session's id follows. Returns whether the records are of this form: else nothing more is known of them. */
+bool take_start(struct record *record, struct start *start);
 
 /* Puts a journal of a session that has a new server in the place of the one that is there. Where that can't be it is held, and none is
  * there: a journal that nobody writes would bring an older text back. */

@@ -73,23 +73,20 @@ static void enter(struct replay *replay, char *folder)
     free(folder);
 }
 
-static void take_start(struct replay *replay, struct record *record)
+static void begin_as_recorded(struct replay *replay, struct record *record)
 {
     struct session *session = replay->session;
-    char *folder = take_words(record);
+    struct start start;
 
-    session->mode_of_new_files = (mode_t)take_number(record);
-    session->vault = (uint16_t)take_number(record);
-    session->stay->longest_alone = (int64_t)take_number(record);
-    uint64_t written_by = take_number(record);
-    replay->is_other = written_by != form_and_version(RECORDS_FORM, sam_library_version());
-    if (written_by >> 32 != RECORDS_FORM) {
+    if (!take_start(record, &start)) {
         replay->fault = REPLAY_OTHER_FORM;
-        free(folder);
         return;
     }
+    replay->is_other = start.is_other;
+    session->mode_of_new_files = start.mode_of_new_files;
+    session->stay->longest_alone = start.longest_alone;
     umask(0666 & ~session->mode_of_new_files);
-    enter(replay, folder);
+    enter(replay, start.folder);
     if (replay->fault == REPLAY_OK)
         begin_server(replay, record);
 }
@@ -123,7 +120,7 @@ static void take_held(struct replay *replay, struct record *record)
 static void take_ended(struct stay *stay, uint64_t status)
 {
     stay->has_ended = true;
-    stay->is_kept = status == STATUS_LOST; /* the journal has what could not be saved */
+    stay->is_kept |= status == STATUS_LOST; /* the journal has what could not be saved */
 }
 
 static void replay_entry(struct replay *replay, uint8_t kind, struct record *record)
@@ -160,7 +157,7 @@ static void replay_record(struct replay *replay, struct record *record)
         uint8_t kind = take_kind(record);
         struct record entry = {0};
         if (kind == ENTRY_START)
-            take_start(replay, record);
+            begin_as_recorded(replay, record);
         else {
             entry.body = take_data(record, &entry.len);
             if (!record->is_wrong && (kind == ENTRY_SERVER || !replay->is_again))
@@ -216,7 +213,7 @@ static void finish_server(struct replay *replay)
         forget_closed(session, (uint16_t)tag);
         session->has_unmarked |= session->documents[tag].is_unmarked;
     }
-    if (!session->stay->is_named && !tell_hidden_again(session))
+    if (!session->stay->is_named && !tell_hidden(session))
         replay->fault = REPLAY_SHORT;
 }
 
@@ -282,10 +279,10 @@ enum replay_fault begin_again(struct session *session)
         replay.fault = cut_to_whole_records(&replay, &all);
     if (replay.fault == REPLAY_OK)
         finish_server(&replay);
-    if (replay.fault == REPLAY_OK && !replay.is_damaged)
+    if (replay.fault == REPLAY_OK && !replay.is_damaged && !replay.is_other)
         sync_journal(session); /* who wrote it may have been killed before */
     else
-        close_journal(&stay->journal);
+        close_journal(&stay->journal); /* it stays as it is */
     (void)sam_recovery_free(&replay.recovery);
     close_records(&all);
     if (replay.is_damaged && (replay.fault == REPLAY_OK || replay.fault == REPLAY_DIFFERS))

@@ -329,10 +329,8 @@ static int give_up(struct session *session, enum replay_fault fault, bool is_att
         say("session %s can't go on: its journal is damaged at byte %" PRIu64, home->name, session->stay->journal.damaged_at);
     else
         say("session %s can't go on: %s", home->name, why_not_again(fault));
-    if (fault == REPLAY_OTHER) {
-        close_journal(&session->stay->journal); /* it stays as it is */
-        (void)take_all(session);                /* writes a file, if that was asked for last */
-    }
+    if (fault == REPLAY_OTHER)
+        (void)take_all(session); /* writes a file, if that was asked for last */
     bool is_saved = !is_known || close_session(session, INPUT_ENDED) == STATUS_OK;
     if (is_wrong)
         is_saved = keep_wrong(home);
@@ -426,6 +424,7 @@ int end_without_samhost(struct home *home, bool has_ended)
         return STATUS_MEMORY;
     }
     session->stay->is_to_end = true;
+    session->stay->is_kept = true; /* until all is saved */
     bool has_some = has_journal(home);
     enum replay_fault fault = has_some ? begin_again(session) : REPLAY_NOTHING;
     if (fault != REPLAY_OK && fault != REPLAY_NOTHING)

@@ -14,13 +14,11 @@
  * they are not watched, not saved aside, and not handed on to another terminal. */
 enum purpose {
     FOR_USER,
-    FOR_UNDO,  /* there a terminal keeps text; it is nowhere on disk */
     LEFT_OVER, /* it is what an earlier session saved aside, which goes where it is written empty */
     READ_ANEW  /* what stood on the disk, for the terminal to put in the place of a file's text */
 };
 
 /* The names of hidden files, or what they begin with. A user's file may have them, too. */
-#define NAME_FOR_UNDO "~~undo~~"
 #define NAME_LEFT_OVER "~~left~~"
 #define NAME_READ_ANEW "~~anew~~ " /* the tag of the old one follows */
 
@@ -50,7 +48,6 @@ struct document {
     bool is_taken;          /* the terminal was told that it is not written, when it took the session over */
     bool is_reported;       /* it was said that its text can't be saved */
     enum purpose purpose;
-    bool is_told_of;  /* the terminal is told that it is hidden, or will be */
     bool is_reloaded; /* its text was read anew, and the next write may find it in its file */
     struct watch watch;
 };

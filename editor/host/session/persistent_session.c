@@ -193,13 +193,13 @@ static int64_t time_left_alone(const struct session *session)
 }
 
 /* In how many milliseconds something is to be done that nothing which comes asks for; -1: never. */
-static int64_t time_to_wait(const struct session *session, int64_t longest)
+static int64_t time_to_wait(struct session *session, int64_t longest)
 {
     struct stay *stay = session->stay;
     int64_t wait = earlier(earlier(longest, save_is_due_in(session)), earlier(drop_callers(stay), watch_is_due_in(session)));
 
     wait = earlier(wait, time_left_alone(session));
-    bool is_short = stay->is_short || stay->messages.waiting != NULL;
+    bool is_short = stay->is_short || stay->messages.waiting != NULL || !is_settled(session);
     return is_short && stay->is_named ? earlier(wait, PAUSE) : wait;
 }
 
@@ -317,13 +317,22 @@ static bool has_heard_all(struct session *session, uint64_t wanted)
     return stay->ending == FAULT ? stay->line < 0 : count_of(session, sam_server_acknowledged) >= wanted;
 }
 
-/* Puts the last message. */
+/* Whether all that was said has gone over the line, the last message with it: where memory is out some of it waits. */
+static bool has_sent_all(struct session *session)
+{
+    const struct stay *stay = session->stay;
+    bool is_put = stay->has_ended && stay->messages.waiting == NULL && sam_server_go_on(session->server) == SAM_OK;
+
+    return is_put && is_settled(session) && stay->line_out >= 0 && stay->out.sent == stay->out.len;
+}
+
+/* Puts the last message, once there is memory for its record. */
 static void put_last_message(struct session *session, int status)
 {
     struct stay *stay = session->stay;
 
     say_missing(&stay->messages); /* no line comes after it */
-    if (stay->has_ended || stay->messages.missing > 0)
+    if (stay->has_ended || stay->messages.missing > 0 || !has_room_for_number(&stay->journal))
         return;
     stay->has_ended = put_message(session, &(struct event){.kind = SAM_NOTE_ENDED, .number = (uint64_t)status}, NULL);
     if (stay->has_ended)
@@ -348,8 +357,7 @@ static void say_the_end(struct session *session, const sigset_t *mask, int statu
         put_last_message(session, status);
         take_no_more(session);
         send_all(session);
-        bool is_sent = stay->line_out >= 0 && stay->out.sent == stay->out.len;
-        if (wanted == 0 && is_sent && stay->has_ended && stay->messages.waiting == NULL)
+        if (wanted == 0 && has_sent_all(session))
             wanted = count_of(session, sam_server_put_count);
         if (has_heard_all(session, wanted) || (stay->has_streams && wanted == 0 && !is_tried_again(ENOMEM, &tries)))
             return;
@@ -363,19 +371,22 @@ static bool is_kept_at(const struct stay *stay, enum ending ending)
     return ending == INPUT_ENDED && is_signalled() && !stay->is_to_end && stay->is_named && takes_records(&stay->journal);
 }
 
-/* Saves the texts aside, and has the journal be on the disk, so that another samhost can go on. Returns whether that is so. */
+/* Saves the texts aside, and has the journal be on the disk, so that another samhost can go on. Returns whether that is so. What the
+ * journal can't take of this the terminal doesn't hear: the other samhost goes on as after a kill. */
 static bool keep_session(struct session *session)
 {
     struct stay *stay = session->stay;
 
+    stay->is_kept = writes_records(&stay->journal);
     (void)save_changed(session); /* what can't be saved is in the journal */
     record_copies(session);
     settle(session);
-    stay->is_kept = begin_journal_anew(session);
-    if (stay->is_kept) {
+    bool has_all = begin_journal_anew(session);
+    stay->is_kept |= has_all;
+    if (has_all)
         write_line(session);
+    if (stay->is_kept)
         drop_line(session);
-    }
     return stay->is_kept;
 }
 
@@ -384,8 +395,10 @@ static bool keep_session(struct session *session)
 static int end_for_good(struct session *session)
 {
     struct stay *stay = session->stay;
+
+    stay->is_kept = writes_records(&stay->journal); /* until all is saved */
     int status = close_session(session, stay->ending);
-    stay->is_kept = status == STATUS_LOST && begin_journal_anew(session);
+    stay->is_kept = status == STATUS_LOST && (stay->is_kept || begin_journal_anew(session));
     if (stay->is_kept)
         say("the journal of session %s stays: samhost --end %s tries again to save what it has", stay->home.name, stay->home.name);
     return status;

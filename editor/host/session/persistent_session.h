@@ -47,7 +47,7 @@ struct stay {
     struct session *heir; /* what another terminal has made of the session; else NULL */
     bool has_ended;       /* the last message is put */
     bool is_to_end;       /* somebody has asked for its end */
-    bool is_kept;         /* its folder stays, for another samhost to go on from its journal */
+    bool is_kept;         /* its folder stays, for another samhost to go on from its journal, also where that can't be written any more */
     int64_t begun, alone_since, longest_alone;
     int64_t gone; /* since when a terminal is known to be gone of which memory is out for the last bytes; else 0 */
 };

@@ -52,21 +52,10 @@ bool tell_hidden(struct session *session)
     size_t tags = count_tags(session);
 
     for (size_t tag = 1; tag < tags; tag++) {
-        struct document *document = &session->documents[tag];
-        if (!is_hidden(session, tag) || document->is_told_of)
-            continue;
-        if (!put_message(session, &(struct event){.kind = SAM_NOTE_ANEW, .number = tag}, NULL))
+        if (is_hidden(session, tag) && !put_message(session, &(struct event){.kind = SAM_NOTE_ANEW, .number = tag}, NULL))
             return false;
-        document->is_told_of = true;
     }
     return true;
-}
-
-bool tell_hidden_again(struct session *session)
-{
-    for (size_t tag = 1, tags = count_tags(session); tag < tags; tag++)
-        session->documents[tag].is_told_of = false;
-    return tell_hidden(session);
 }
 
 static mode_t mode_of_new_files(void)
@@ -113,13 +102,12 @@ int open_session(struct session *session, char **paths, int count, const struct 
         return status;
     if (options->tells_times)
         tell_times(session);
-    report_left(session, options->has_vault);
-    status = options->has_vault ? add_vault(session) : STATUS_OK;
-    if (status == STATUS_OK && !tell_hidden(session)) {
+    report_left(session, options->offers_left);
+    if (!tell_hidden(session)) {
         say("out of memory");
-        status = STATUS_MEMORY;
+        return STATUS_MEMORY;
     }
-    return status;
+    return STATUS_OK;
 }
 
 int close_session(struct session *session, enum ending ending)

@@ -19,7 +19,6 @@ struct stay;
 
 struct session {
     sam_server *server;
-    uint16_t vault;             /* the tag of the file for undo; 0 where there is none */
     struct document *documents; /* ALL_TAGS of them */
     bool has_unmarked;          /* some of them may be to be marked as dirty */
     struct text text;           /* room for one text (MOST_BYTES) */
@@ -36,7 +35,7 @@ struct session {
 
 /* What the words say beside the files. */
 struct options {
-    bool has_vault, tells_times;
+    bool offers_left, tells_times;
     int64_t longest_alone; /* milliseconds that a session stays alone */
     const char *name;      /* of a session that stays */
     bool waits;            /* until a file is closed */
@@ -64,10 +63,7 @@ sam_status add_to_server(struct session *session, const char *name, const struct
 /* Whether a file is none of the user's. */
 bool is_hidden(const struct session *session, size_t tag);
 
-/* Tells the terminal which files are hidden, as far as it was not. Returns whether there is memory for that. */
+/* Tells a terminal that has heard nothing which files are hidden. Returns whether there is memory for that. */
 bool tell_hidden(struct session *session);
-
-/* The same of all of them, for a terminal that has heard nothing. */
-bool tell_hidden_again(struct session *session);
 
 #endif

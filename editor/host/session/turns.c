@@ -55,12 +55,14 @@ static bool feed(struct session *session)
 
 void take_no_more(struct session *session)
 {
-    struct piece *in = &session->stay->in;
+    struct stay *stay = session->stay;
+    struct piece *in = &stay->in;
 
-    if (session->stay->ending == FAULT) /* it would stop the server once more */
+    if (stay->ending == FAULT) /* it would stop the server once more */
         in->sent = in->len;
     else if (sam_server_go_on(session->server) == SAM_OK)
         (void)feed(session);
+    stay->is_short = in->sent < in->len || sam_server_go_on(session->server) == SAM_UNFINISHED;
 }
 
 /* ---- What it asks for ---- */

@@ -17,7 +17,7 @@ enum ending take_again(struct session *session, int *tries);
 /* Both, for a session that ends then. */
 enum ending take_all(struct session *session);
 
-/* Has the server take what was read, for the counts of its link, once nothing is done any more. */
+/* Has the server take what was read, for the counts of its link, once nothing is done any more; notes whether memory is out for that. */
 void take_no_more(struct session *session);
 
 #endif

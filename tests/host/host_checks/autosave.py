@@ -141,7 +141,7 @@ def check_stale_host(folder):
 
 
 def check_offered(folder):
-    """A terminal that keeps text for undo is offered the texts that earlier sessions saved, each as a file named by the tag of its file,
+    """With --left a terminal is offered the texts that earlier sessions saved, each as a file named by the tag of its file,
     whether it is newer, and when it was saved. Written empty it goes, unless it has changed. One that its file has goes at once."""
     made(folder, a="one\n", b="b\n")
     own = own_copy(folder, "b.txt")
@@ -152,7 +152,7 @@ def check_offered(folder):
     own.write_text("own\n")
     when = 1_700_000_000
     os.utime(folder / "a.txt.sam-saved.2", (when, when))
-    with Session(folder, "a.txt", "b.txt", options=("--undo",)) as session:
+    with Session(folder, "a.txt", "b.txt", options=("--left",)) as session:
         lines = session.told()
         shown = time.strftime("%Y-%m-%d %H:%M:%S", time.localtime(when))
         expect_line(lines, f"a.txt has a text that was not written: it is in a.txt.sam-saved.2, of {shown}, older than the file")
@@ -161,7 +161,6 @@ def check_offered(folder):
         offered = {terminal.name(tag): tag for tag in terminal.files() if terminal.name(tag).startswith("~~left~~ ")}
         expect_equal(sorted(name[9:12] for name in offered), ["0 +", "1 +", "1 -", "2 +"], "what is offered")
         expect(f"~~left~~ 1 - {shown}" in offered, f"the times are wrong: {offered}")
-        expect_equal(terminal.name(terminal.files()[-1]), "~~undo~~", "the last name")
         for name, tag in offered.items():
             terminal.load(tag, 0, terminal.len(tag))
             session.settle()

@@ -30,7 +30,7 @@ def check_cut(folder):
     start, end = 1000, 20_000
     for how, wanted in (("input", True), (signal.SIGTERM, True), (signal.SIGHUP, True), ("exit", False), ("q", False)):
         made(folder, a=lines)
-        with Session(folder, "a.txt", options=("--undo",)) as session:
+        with Session(folder, "a.txt", options=("--left",)) as session:
             session.terminal.select(1, start, end)
             session.terminal.cut(1)
             session.write()
@@ -61,7 +61,7 @@ def check_cut_and_more(folder):
         ("set", lambda session: session.terminal.set_snarf("none"), "none"),
     ):  # fmt: skip
         made(folder, a="one\ntwo\nthree\n")
-        with Session(folder, "a.txt", options=("--undo",)) as session:
+        with Session(folder, "a.txt", options=("--left",)) as session:
             does(session)
             session.settle()
             is_saved = is_cut_saved(folder, session, wanted, "input")
@@ -76,7 +76,7 @@ def check_cut_is_saved_by_itself(folder):
     (folder / "cut").write_text("open to all")
     for how in ("kill", "paste", "exit", "taken"):
         made(folder, a="one\ntwo\n")
-        with Session(folder, "a.txt", options=("--undo",)) as session:
+        with Session(folder, "a.txt", options=("--left",)) as session:
             session.terminal.select(1, 0, 3)
             session.terminal.cut(1)
             session.write()

@@ -57,7 +57,7 @@ def check_join_of_a_known_file(folder):
     (path,) = made(folder, a="one\n")
     os.link(path, folder / "hard.txt")
     (folder / "soft.txt").symlink_to("a.txt")
-    with Staying(folder, "a.txt", "new.txt", options=("--undo",)) as session:
+    with Staying(folder, "a.txt", "new.txt", options=("--left",)) as session:
         tags = {"a.txt": 1, "./a.txt": 1, str(path): 1, "hard.txt": 1, "soft.txt": 1, "new.txt": 2}
         for number, (name, tag) in enumerate(tags.items(), 1):
             expect_equal(asked_to_open(session, name, number), tag, f"the answer to {name}")
@@ -69,7 +69,7 @@ def check_join_of_a_known_file(folder):
 def check_read_anew_and_not_put_in(folder):
     """A file has what was read anew only once its text is that: until then a write asks first, and replaces nothing."""
     (path,) = made(folder, a="one\n")
-    with Staying(folder, "a.txt", options=("--undo",)) as session:
+    with Staying(folder, "a.txt", options=("--left",)) as session:
         path.write_text("other\n")
         answer = asked(session, "RELOAD", 7, tag=1)
         expect_equal(answer.kind, sulgrevad.NoteKind.ANEW, f"of {answer} the kind")
@@ -141,7 +141,7 @@ def check_join_of_files(folder):
     """A file that joins is opened, edited and written as any other; one that isn't there is made when it is written."""
     made(folder, a="one\n")
     (folder / "b.txt").write_text("other\n")
-    with Staying(folder, "a.txt", options=("--undo",)) as session:
+    with Staying(folder, "a.txt", options=("--left",)) as session:
         session.type("two\n")
         for number, (name, text) in enumerate((("b.txt", "other\n"), ("new.txt", "")), 1):
             tag = joined(session, name, number)

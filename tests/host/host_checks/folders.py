@@ -1,7 +1,7 @@
-"""Folders that are served, and the file for undo."""
+"""Folders that are served."""
 import os
 
-from .support import IDLE, Session, as_nobody, expect_equal, expect_only, made, names_of, text_of
+from .support import Session, as_nobody, expect_equal, made, names_of, text_of
 
 LEFT_OUT = "files are left out, as they are no UTF-8 text, are too long or can't be read"
 
@@ -61,23 +61,3 @@ def check_closed_folder(folder):
     with Session(folder, "d", prefix=prefix) as session:
         expect_equal(names_of(session), ["d/open/a"], "the names")
         expect_equal(session.told(), ["samhost: d/closed/: Permission denied", f"samhost: d: 1 {LEFT_OUT}"], "what it says")
-
-
-def check_file_for_undo(folder):
-    """With --undo there is a file that is nowhere on disk: neither when it is written, nor after a while, nor when it is closed, nor at
-    the end."""
-    made(folder, a="one\n")
-    for ends_by in ("write", "close", "input"):
-        with Session(folder, "a.txt", options=("--undo",)) as session:
-            expect_equal(names_of(session), ["a.txt", "~~undo~~"], "the names")
-            session.type("kept\n", 2)
-            if ends_by == "write":
-                session.write(2)
-            session.let_pass(IDLE + 0.5)
-            expect_only(folder, "a.txt")
-            if ends_by == "close":
-                session.terminal.close(2)
-            expect_equal(session.told(), [], "what it says")
-            expect_equal(session.end(), 0, "the status")
-            expect_equal(session.lines, [], "what it says at the end")
-        expect_only(folder, "a.txt")

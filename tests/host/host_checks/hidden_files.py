@@ -13,11 +13,11 @@ def hidden(session):
 
 
 def check_hidden_files_are_told(folder):
-    """The terminal is told of the files that a host keeps for it, also where samhost was killed before it had a terminal. They are in no
-    list, are saved nowhere, and nobody gets them who takes the session over, but for an empty one of his own for undo."""
+    """The terminal is told which files are hidden, also where samhost was killed before it had a terminal. They are in no list, are saved
+    nowhere, and nobody gets them who takes the session over."""
     made(folder, a="one\n")
     (folder / "a.txt.sam-saved").write_text("left\n")
-    with Staying(folder, "a.txt", options=("--undo",), begin=False) as session:
+    with Staying(folder, "a.txt", options=("--left",), begin=False) as session:
         lock = home_of(folder, session.name) / "lock"
         wait_until(lambda: lock.exists() and lock.read_text(), "it doesn't begin")
         kill(folder, session)
@@ -25,23 +25,19 @@ def check_hidden_files_are_told(folder):
         session.begin()
         names = [session.terminal.name(tag) for tag in session.terminal.files()]
         expect_equal(names[:2], ["~~sam~~", "a.txt"], "the first names")
-        expect_equal((hidden(session), len(names)), (names[2:], 4), "the hidden files, and the number of all")
+        expect_equal((hidden(session), len(names)), (names[2:], 3), "the hidden files, and the number of all")
         listed = session.run("--list").stdout
         expect(" 0 not written  a.txt, in " in listed, f"the list has {listed!r}")
-        left, vault = (note.number for note in session.of("ANEW"))
-        for tag in (left, vault):
-            session.terminal.open(tag)
-            session.settle()
-            session.type("typed\n", tag)
+        (left,) = (note.number for note in session.of("ANEW"))
+        session.terminal.open(left)
+        session.settle()
+        session.type("typed\n", left)
         listed = session.run("--list").stdout
-        expect(" 0 not written  a.txt, in " in listed, f"once they are changed the list has {listed!r}")
+        expect(" 0 not written  a.txt, in " in listed, f"once one is changed the list has {listed!r}")
         session.drop()
         with Staying(folder, takes=session.name) as new:
             names = [new.terminal.name(tag) for tag in new.terminal.files()]
-            expect_equal((names, hidden(new)), (["~~sam~~", "a.txt", "~~undo~~"], ["~~undo~~"]), "names for the new one, and hidden ones")
-            new.terminal.open(2)
-            new.settle()
-            expect_equal(new.terminal.len(2), 0, "how long that is")
+            expect_equal((names, hidden(new)), (["~~sam~~", "a.txt"], []), "names for the new one, and hidden ones")
             new.leave()
     expect_equal([name for name in names_in(folder) if "sam" in name], ["a.txt.sam-saved"], "the copies")
 
@@ -50,7 +46,8 @@ def check_first_messages_through_a_kill(folder):
     """A samhost that is killed once its journal has the first connection, and before it has said a word: the next one says all that a
     terminal has to know."""
     made(folder, a="one\n")
-    with Staying(folder, "a.txt", options=("--undo",), begin=False) as session:
+    (folder / "a.txt.sam-saved").write_text("left\n")
+    with Staying(folder, "a.txt", options=("--left",), begin=False) as session:
         journal = home_of(folder, session.name) / "journal"
         session.give()
         wait_until(lambda: journal.exists() and HELLO in kinds_of(journal.read_bytes()), "it hears no hello")
@@ -61,8 +58,8 @@ def check_first_messages_through_a_kill(folder):
         journal.write_bytes(data[: ([start for start, _ in records] + [end])[at + 1]])
         session.drop()
         session.begin()
-        said = session.messages[0].kind, len(session.of("SESSION")), hidden(session)
-        expect_equal(said, (NoteKind.SESSION, 1, ["~~undo~~"]), "the kind of the first message, how many are of it, and the hidden files")
+        said = session.messages[0].kind, len(session.of("SESSION")), [note.number for note in session.of("ANEW")]
+        expect_equal(said, (NoteKind.SESSION, 1, [2]), "the kind of the first message, how many are of it, and the hidden files")
         session.leave()
 
 

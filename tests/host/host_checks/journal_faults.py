@@ -8,8 +8,9 @@ import time
 from checks import MNT_DETACH, Skipped, expect, libc, wait_until
 from link_model import What
 
-from .journals import kill, records_of, typed
+from .journals import ENDED, kill, kinds_of, records_of, typed
 from .line import Staying, home_of, is_running, pid_of, state_of, with_calls
+from .memory import build_full_disk
 from .persistent_session import expect_gone
 from .support import expect_equal, made, names_in, text_of
 
@@ -118,7 +119,7 @@ def went_on(place, call, error, when):
     came."""
     place.mkdir()
     made(place, a="one\n", b="other\n")
-    with Staying(place, "a.txt", options=("--undo",)) as session:
+    with Staying(place, "a.txt", options=("--left",)) as session:
         text = "one\n"
         with with_calls(pid_of(place, session.name), f"inject={call}:error={error}:when={when}"):
             for number in range(3):
@@ -157,6 +158,56 @@ def check_journal_at_each_fault(folder):
                 if not all(found):
                     break
         expect(came > 4, f"this test is wrong: {call} fails {came} times")
+
+
+def on_full_disk(folder):
+    """Words of the environment that run samhost on a disk which is full while a file is there; and that file."""
+    full = folder / "temporary" / "full"
+    return {"LD_PRELOAD": str(build_full_disk(folder)), "FULL": str(full)}, full
+
+
+def check_journal_stays_where_its_end_finds_no_room(folder):
+    """A session whose text can't be saved at its end keeps its journal, also where that takes nothing more, not even that it stays. So does
+    --end while there is no room. Once there is some, it saves the text."""
+    made(folder, a="one\n")
+    words, full = on_full_disk(folder)
+    with Staying(folder, "a.txt", prefix=("env", *map("=".join, words.items()))) as session:
+        session.type("two\n")
+        pid, journal = pid_of(folder, session.name), home_of(folder, session.name) / "journal"
+        full.write_text("samhost --end")
+        session.terminal.exit()
+        session.wait_for_end(5)
+        wait_until(lambda: not is_running(pid), "it doesn't go")
+        expect(any("samhost --end" in said for said in session.said()), f"it doesn't say that the journal stays: {session.said()}")
+        expect(journal.exists(), "the journal is gone that was to stay")
+        expect(ENDED not in kinds_of(journal.read_bytes()), "this test is wrong: the journal has room")
+        full.write_text("")
+        session.environment.update(words)
+        ended = session.run("--end", session.name)
+        expect_equal(ended.returncode, 5, f"after {ended.stderr!r} the status of --end on a full disk")
+        expect(journal.exists(), f"the journal is gone, and --end says {ended.stderr!r}")
+        full.unlink()
+        ended = session.run("--end", session.name)
+        wanted = (0, "samhost: a.txt was not written; its text is in a.txt.sam-saved\n")
+        expect_equal((ended.returncode, ended.stderr), wanted, "what comes of --end once there is room")
+        expect_gone(folder, session)
+    expect_equal(text_of(folder / "a.txt.sam-saved"), "one\ntwo\n", "the copy")
+
+
+def check_journal_stays_at_a_signal_without_room(folder):
+    """At a signal a journal that takes nothing more stays as it is, and another samhost goes on from it with the same terminal."""
+    made(folder, a="one\n")
+    words, full = on_full_disk(folder)
+    with Staying(folder, "a.txt", prefix=("env", *map("=".join, words.items()))) as session:
+        session.type("two\n")
+        pid = pid_of(folder, session.name)
+        full.touch()
+        os.kill(pid, signal.SIGTERM)
+        wait_until(lambda: not is_running(pid), "it doesn't go")
+        session.type("three\n")
+        expect(pid_of(folder, session.name) != pid, "no other samhost has begun")
+        expect_equal(session.text(), "one\ntwo\nthree\n", "the text")
+        session.leave()
 
 
 def check_stays_without_a_journal_after_a_kill(folder):

@@ -21,7 +21,8 @@ from .support import SAMHOST, expect_equal, made, names_in, text_of
 
 HEAD = 24  # bytes of a journal before its first record
 FRONT, BACK = 24, 4  # bytes of a record before its body, and behind it
-FORM_AND_SUM = (4, "93bd16196b24cd64")  # of the records, and of the code that makes and reads them
+FORM_AND_SUM = (5, "5aa322b387bb3da2")  # of the records, and of the code that makes and reads them
+FORM_END = 1 + 8  # where form and version end in the body of the first record
 START, SERVER, BEGUN, KNOWN, CUT, WANTED, ANSWERED, HELD, FREED, ENDED = 1, *range(32, 41)  # kinds of entries of a record
 FILE, HELLO, UP, SAID, DONE, MARKED = ("file", "hello", "up", "said", "done", "marked")  # kinds of records of the server
 SERVERS = {1: FILE, 2: HELLO, 3: UP, 4: SAID, 7: DONE, 8: MARKED}
@@ -61,8 +62,8 @@ def kinds_in(body):
         kind = body[at]
         kinds.add(kind)
         if kind == START:
-            at = 1 + 8
-            at += 8 + struct.unpack(">Q", body[at : at + 8])[0] + 32 + 16
+            at += 1 + 8 + 8
+            at += 8 + struct.unpack(">Q", body[at : at + 8])[0] + 16 + 16
             continue
         length = struct.unpack(">Q", body[at + 1 : at + 9])[0]
         if kind == SERVER:
@@ -83,10 +84,16 @@ def records_of(journal):
     return found, at
 
 
-def form_end(journal):
-    """Where the form and the version end in the body of the first record."""
-    at = HEAD + FRONT + 1 + 8
-    return 1 + 8 + 8 + struct.unpack(">Q", journal[at : at + 8])[0] + 32
+def with_earlier_start(journal):
+    """A journal whose first record begins as those of the form 4 did: folder, mode of new files, tag of a hidden file, milliseconds that it
+    stays alone, and then form and version. There are so many milliseconds that they would count as the form of today."""
+    number, length, durable = struct.unpack(">QIQ", journal[HEAD : HEAD + 20])
+    body = bytes(journal[HEAD + FRONT : HEAD + FRONT + length])
+    (words,) = struct.unpack(">Q", body[FORM_END + 8 : FORM_END + 16])
+    folder, rest = body[FORM_END : FORM_END + 16 + words], body[FORM_END + 16 + words :]
+    numbers = struct.pack(">QQI", 2, FORM_AND_SUM[0] << 32, 4)
+    earlier = body[:1] + folder + rest[:8] + numbers + body[5:FORM_END] + rest[16:]
+    return journal[:HEAD] + spelled(journal, number, durable, earlier) + journal[HEAD + FRONT + length + BACK :]
 
 
 def kinds_of(journal):
@@ -120,7 +127,7 @@ def check_journal_goes_on(folder):
     """After kill -9 the next attempt finds all texts, names, dots and marks as they were, and goes on from the counts. The file is written
     once."""
     made(folder, a="one\n", b="other\n")
-    with Staying(folder, "a.txt", "b.txt", options=("--undo",)) as session:
+    with Staying(folder, "a.txt", "b.txt", options=("--left",)) as session:
         session.type("two\n")
         session.write()
         session.type("three\n", 2)
@@ -175,7 +182,7 @@ def check_journal_knows_copies(folder):
     """A copy that a killed samhost has saved is the next one's own: it is replaced, and goes once the file is written. So is what was
     cut."""
     made(folder, a="one two\n")
-    with Staying(folder, "a.txt", options=("--undo",)) as session:
+    with Staying(folder, "a.txt", options=("--left",)) as session:
         session.terminal.select(1, 0, 4)
         session.terminal.cut(1)
         session.settle()
@@ -197,7 +204,7 @@ def check_journal_through_kills(folder):
     """samhost and relay are killed at random moments, many times, while the user types, cuts, writes and runs commands."""
     (path,) = made(folder, a="one\n" * 20)
     chance = random.Random(11)
-    with Staying(folder, "a.txt", options=("--undo",)) as session:
+    with Staying(folder, "a.txt", options=("--left",)) as session:
         for number in range(40):
             length = session.terminal.len(1)
             start, end = sorted(chance.randrange(length + 1) for _ in range(2))
@@ -314,7 +321,7 @@ def check_journal_behind_garbage(folder):
 
 def check_journal_of_another_version(folder):
     """A journal of another version is told of, and not used; where only the library differs the texts are saved aside, else it stays."""
-    for what in ("format", "first format", "records", "library"):
+    for what in ("format", "first format", "records", "earlier records", "library"):
         place = folder / what
         place.mkdir()
         made(place, a="one\n")
@@ -327,8 +334,10 @@ def check_journal_of_another_version(folder):
                 data = data[:8] + struct.pack(">I", 3) + data[12:]
             elif what == "first format":  # it had the library's version there, and records with other heads
                 data = data[:8] + struct.pack(">II", 1, 256) + struct.pack(">IB", 0, 3) + bytes(4) + data[HEAD:]
+            elif what == "earlier records":
+                data = with_earlier_start(data)
             else:
-                data = with_turned(data, HEAD, form_end(data) - (1 if what == "library" else 5))
+                data = with_turned(data, HEAD, FORM_END - (1 if what == "library" else 5))
             journal.write_bytes(data)
             session.drop()
             session.attach()
@@ -510,7 +519,7 @@ def check_journal_does_not_grow_with_loads(folder):
     load that was under way."""
     text = "a line of the text\n" * 40_000
     made(folder, a=text)
-    with Staying(folder, "a.txt", options=("--undo",), kind=sulgrevad.Link) as session:
+    with Staying(folder, "a.txt", options=("--left",), kind=sulgrevad.Link) as session:
         journal, terminal = home_of(folder, session.name) / "journal", session.terminal
         before = journal.stat().st_size
         expect(session.text() == text, "the text is another")

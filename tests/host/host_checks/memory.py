@@ -57,21 +57,31 @@ def scene_of_many():
     stream = b"".join(
         (
             message(2), on_file(OPEN, 2), on_file(OPEN), typed(1, 0, b"1"), on_file(WRITE), typed(0, 0, b"f nowhere/c.txt\n"),
-            typed(1, 0, b"2"), on_file(CLOSE), message(NEW_FILE), typed(4, 0, b"new\n"), typed(2, 0, b"3"), on_file(WRITE, 2),
+            typed(1, 0, b"2"), on_file(CLOSE), message(NEW_FILE), typed(3, 0, b"new\n"), typed(2, 0, b"3"), on_file(WRITE, 2),
         )
     )  # fmt: skip
     files = {"d/a.txt": ("one\n", "1one\n"), "d/e/b.txt": ("b\n", "3b\n")}
-    return Scene(("--undo", "--", "d"), stream, files, {"21one\n", "new\n", "3b\n"})
+    return Scene(("--left", "--", "d"), stream, files, {"21one\n", "new\n", "3b\n"})
 
 
-def build_refusing(folder):
-    """The library that refuses requests for memory (tests/core/refuse.c)."""
+def build_preloaded(folder, source):
+    """A library that is loaded before a program, of this source below tests."""
     compiler = (os.environ.get("CC") or "cc").split()
     if shutil.which(compiler[0]) is None:
         raise Skipped(f"no {compiler[0]}")
-    library = folder / "refuse.so"
-    subprocess.run([*compiler, "-O2", "-shared", "-fPIC", "-o", library, ROOT / "tests/core/refuse.c", "-ldl"], check=True)
+    library = folder / f"{Path(source).stem}.so"
+    subprocess.run([*compiler, "-O2", "-shared", "-fPIC", "-o", library, ROOT / "tests" / source, "-ldl"], check=True)
     return library
+
+
+def build_refusing(folder):
+    """The library that refuses requests for memory."""
+    return build_preloaded(folder, "core/refuse.c")
+
+
+def build_full_disk(folder):
+    """The library that is a disk without room."""
+    return build_preloaded(folder, "host/full_disk.c")
 
 
 def run_refused(place, library, scene, number, count):

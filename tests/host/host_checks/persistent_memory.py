@@ -2,12 +2,13 @@
 another samhost makes it again of its journal."""
 import concurrent.futures
 import os
+import time
 
-from checks import GIVEN_UP, Failed, expect, remove
+from checks import GIVEN_UP, Failed, expect, remove, wait_until
 
-from .journals import kill
-from .line import Staying, home_of
-from .memory import build_refusing
+from .journals import ENDED, kill, kinds_of
+from .line import Staying, home_of, is_running, pid_of
+from .memory import build_full_disk, build_refusing
 from .support import expect_equal, made, text_of
 
 MOST_REQUESTS = 1500  # that are refused: later ones are of steps that came before, too
@@ -15,6 +16,7 @@ RUNS = 12  # sessions at once, which wait for the most part
 TRIES = 20  # takeovers that are tried: a samhost without memory answers none
 BROKEN, NO_MEMORY = 6, 4  # statuses
 FIRST, STEP = 60, 29  # of the requests from the first number on every so manieth is refused
+SOON = 30  # seconds: half as long as a session waits for a terminal that left and is gone
 
 
 def refusing(place, library, number, count):
@@ -80,7 +82,7 @@ def texts_in(place, *sessions):
 def begin_and_live(place, prefix):
     """A session without memory doesn't begin, and says so, or loses nothing."""
     made(place, a="one\n", b="other\n")
-    with Staying(place, "a.txt", options=("--undo",), prefix=prefix, begin=False) as session:
+    with Staying(place, "a.txt", options=("--left",), prefix=prefix, begin=False) as session:
         if not is_welcomed(session):
             status = session.others[-1].wait(GIVEN_UP)
             expect(status in (NO_MEMORY, BROKEN), f"the status is {status}: {session.errors!r}")
@@ -100,7 +102,7 @@ def begin_and_live(place, prefix):
 def begin_again(place, prefix):
     """So does one that another samhost is to make again: then the next one does."""
     made(place, a="one\n")
-    with Staying(place, "a.txt", options=("--undo",)) as session:
+    with Staying(place, "a.txt", options=("--left",)) as session:
         session.type("two\n")
         session.write()
         session.terminal.select(1, 0, 4)
@@ -121,10 +123,43 @@ def begin_again(place, prefix):
     expect("two\nthree\nfour\n" in texts, f"its text is lost: there is {texts}")
 
 
-def sweep(folder, count, run):
+def leave(place, prefix):
+    """A session without memory as its terminal leaves says soon that it ends, and loses nothing. What that takes is one request after
+    another, so each is refused."""
+    made(place, a="one\n")
+    leaves = place.parent / f"{place.name}.leaves"
+    with Staying(place, "a.txt", prefix=(*prefix, f"REFUSE_ONCE={leaves}")) as session:
+        session.type("two\n")
+        began = time.monotonic()
+        leaves.touch()
+        session.leave()
+        expect(time.monotonic() - began < SOON, "it waits for a terminal that has left and has heard all")
+    texts = texts_in(place, session)
+    expect("one\ntwo\n" in texts, f"its text is lost: there is {texts}")
+
+
+def leave_unsaved(place, prefix):
+    """So does one whose text can't be saved either: its journal stays, with its end, and --end saves the text."""
+    made(place, a="one\n")
+    leaves = place.parent / f"{place.name}.leaves"
+    with Staying(place, "a.txt", prefix=(*prefix, f"REFUSE_ONCE={leaves}", f"FULL={leaves}")) as session:
+        session.type("two\n")
+        pid, journal = pid_of(place, session.name), home_of(place, session.name) / "journal"
+        leaves.write_text("words that the journal has not, so it has room")
+        session.terminal.exit()
+        session.wait_for_end(5)
+        wait_until(lambda: not is_running(pid), "it doesn't go")
+        expect(journal.exists(), "its journal is gone")
+        expect(ENDED in kinds_of(journal.read_bytes()), "its journal doesn't have its end")
+        ended = session.run("--end", session.name)
+        expect_equal(ended.returncode, 0, f"after {ended.stderr!r} the status of --end")
+    expect_equal(text_of(place / "a.txt.sam-saved"), "one\ntwo\n", "the copy")
+
+
+def sweep(folder, count, run, *others):
     """Runs sessions of which a request is refused, and those after it: so many in all. Each of the first requests is, and of those after
-    them every so manieth."""
-    library = build_refusing(folder)
+    them every so manieth. Other libraries are loaded, too."""
+    library = ":".join(map(str, (build_refusing(folder), *others)))
 
     def refuse(number):
         place = folder / f"{run.__name__}-{count}-{number}"
@@ -160,3 +195,15 @@ def check_journal_where_memory_is_refused(folder):
     """So it is where another samhost begins from its journal: it does, or the next one does."""
     for count in (1, 4):
         sweep(folder, count, begin_again)
+
+
+def check_leaves_where_memory_is_refused(folder):
+    """A terminal that leaves hears soon that the session has ended, which waits for nothing then, where memory is refused meanwhile."""
+    for count in (1, 4):
+        sweep(folder, count, leave)
+
+
+def check_journal_stays_where_memory_is_refused(folder):
+    """A session whose text can't be saved at its end keeps its journal, where memory is refused meanwhile."""
+    for count in (1, 4):
+        sweep(folder, count, leave_unsaved, build_full_disk(folder))

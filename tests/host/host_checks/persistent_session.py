@@ -54,7 +54,7 @@ def check_stays_says_what_was_left(folder):
     """What is known at its start comes before all other messages but the first."""
     made(folder, a="one\n")
     (folder / "a.txt.sam-saved").write_text("newer\n")
-    with Staying(folder, "a.txt", options=("--times", "--undo")) as session:
+    with Staying(folder, "a.txt", options=("--times", "--left")) as session:
         dated, earlier = session.messages[1:3]
         time_of = int((folder / "a.txt").stat().st_mtime)
         expect_equal(dated, sulgrevad.Note(sulgrevad.NoteKind.DATED, tag=1, number=time_of, path=b"a.txt"), "the time")
@@ -225,7 +225,7 @@ def check_stays_after_a_signal(folder):
         place = folder / str(is_alone)
         place.mkdir()
         made(place, a="one\n")
-        with Staying(place, "a.txt", options=("--undo",)) as session:
+        with Staying(place, "a.txt", options=("--left",)) as session:
             session.type("two\n")
             pid = pid_of(place, session.name)
             if is_alone:
@@ -237,7 +237,7 @@ def check_stays_after_a_signal(folder):
             session.type("three\n")
             expect(pid_of(place, session.name) != pid, "no other samhost has begun")
             expect_equal(session.text(), "one\ntwo\nthree\n", "the text")
-            expect_equal([sulgrevad.NoteKind(message.kind).name for message in session.messages], ["SESSION", "ANEW"], "what it says")
+            expect_equal([sulgrevad.NoteKind(message.kind).name for message in session.messages], ["SESSION"], "what it says")
             session.write()
             session.leave()
         expect_equal([name for name in names_in(place) if "sam" in name], [], "the copies that are left")
@@ -451,7 +451,7 @@ def check_stays_ended_without_its_folder(folder):
     place.mkdir()
     made(place, a="one two\n")
     (folder / "a.txt").write_text("another\n")
-    with Staying(place, "a.txt", options=("--undo",)) as session:
+    with Staying(place, "a.txt", options=("--left",)) as session:
         environment = session.environment
         session.terminal.select(1, 0, 4)
         session.terminal.cut(1)
@@ -470,9 +470,9 @@ def check_stays_ended_without_its_folder(folder):
         ended = subprocess.run(words, cwd=folder, env=environment, capture_output=True, text=True, timeout=GIVEN_UP)
         expect_equal(ended.returncode, 0, f"after {ended.stderr!r} the status")
         expect(not (kept / "sulgrevad" / session.name).exists(), "its folder stays")
-        copies = {name: kept / "sulgrevad" / f"{front_of(place / name)}.sam-saved" for name in ("a.txt", "cut", "unnamed-3")}
+        copies = {name: kept / "sulgrevad" / f"{front_of(place / name)}.sam-saved" for name in ("a.txt", "cut", "unnamed-2")}
         texts = {name: text_of(copy) for name, copy in copies.items()}
-        expect_equal(texts, {"a.txt": "two\nthree\n", "cut": "one ", "unnamed-3": "unnamed\n"}, f"after {ended.stderr!r} the copies")
+        expect_equal(texts, {"a.txt": "two\nthree\n", "cut": "one ", "unnamed-2": "unnamed\n"}, f"after {ended.stderr!r} the copies")
         expect(f"{place}/a.txt was not written; its text is in {copies['a.txt']}" in ended.stderr, f"it says {ended.stderr!r}")
         expect_equal(names_in(folder), ["a.txt", "elsewhere", "state"], "what is in the folder")
         expect_equal(text_of(folder / "a.txt"), "another\n", "the other file")

@@ -28,7 +28,7 @@ def lived(place):
     many bytes that had, the texts of both files, and what they have on the disk."""
     made(place, a="one\n" * 20, b="other\n")
     numbers, states = random.Random(5), []
-    with Staying(place, *NAMES, options=("--undo",)) as session:
+    with Staying(place, *NAMES, options=("--left",)) as session:
         texts, cut = ["one\n" * 20, "other\n"], ""
         journal = home_of(place, session.name) / "journal"
         for number in range(120):
@@ -210,7 +210,7 @@ def check_power_cut_at_the_last_sync(folder):
     also where the rest would come out otherwise now, as a long file that is being loaded, a write that was refused, and names of files."""
     (path, _) = made(folder, a="one\n", b="a line of the long file\n" * 30_000)
     log = folder / "temporary" / "calls"
-    with Staying(folder, "a.txt", "b.txt", options=("--undo",), prefix=traced(log)) as session:
+    with Staying(folder, "a.txt", "b.txt", options=("--left",), prefix=traced(log)) as session:
         terminal, link, power = session.terminal, session.link, PowerCuts(folder, session, log)
         for count in range(3):
             session.type(f"key {count}\n")
@@ -330,7 +330,7 @@ def check_journal_is_read_quickly(folder):
     """Another samhost reads a journal of 16 MB, of edits all over a text of some 50,000 characters, in less than a second of a quiet
     processor."""
     made(folder, a="one\n")
-    with Staying(folder, "a.txt", options=("--undo",), kind=sulgrevad.Link) as session:
+    with Staying(folder, "a.txt", options=("--left",), kind=sulgrevad.Link) as session:
         terminal, journal = session.terminal, home_of(folder, session.name) / "journal"
         line, count = "x" * 79 + "\n", 0
         while journal.stat().st_size < LONG:

@@ -36,7 +36,7 @@ def check_taken_by_one_that_only_calls(folder):
 def check_taken_with_texts_and_marks(folder):
     """A takeover brings names, texts and what was not written; the older terminal is told, and its session is there no more."""
     first, second = made(folder, a="one\n", b="other\n")
-    with Staying(folder, "a.txt", "b.txt", options=("--undo",)) as old:
+    with Staying(folder, "a.txt", "b.txt", options=("--left",)) as old:
         old.type("two\n")
         old.type("more\n", 2)
         old.write(2)
@@ -44,7 +44,7 @@ def check_taken_with_texts_and_marks(folder):
         pid = pid_of(folder, old.name)
         with Staying(folder, takes=old.name) as new:
             expect_equal((new.messages[0], new.messages[0].path), (new.of("SESSION")[0], new.name.encode()), "the first message")
-            expect_equal(names_of(new), ["a.txt", "c.txt", "~~undo~~"], "the names")
+            expect_equal(names_of(new), ["a.txt", "c.txt"], "the names")
             expect_equal((new.text(1), new.text(2)), ("one\ntwo\n", "other\nmore\n"), "the texts")
             line = "not written: a.txt: it was not written before this terminal took the session over; its text is in a.txt.sam-saved"
             expect_equal(new.said(), [line], "what it says")
@@ -297,7 +297,7 @@ def check_taken_where_the_folder_stays(folder):
 def check_taken_keeps_what_was_cut(folder):
     """What was cut last and stands nowhere else is saved aside where another terminal takes the session over."""
     made(folder, a="one two\n")
-    with Staying(folder, "a.txt", options=("--undo",)) as old:
+    with Staying(folder, "a.txt", options=("--left",)) as old:
         old.terminal.select(1, 0, 4)
         old.terminal.cut(1)
         old.settle()

@@ -59,16 +59,18 @@ def check_names_in_the_list(folder):
 
 
 def check_names_that_front_ends_take_for_theirs(folder):
-    """A user's file whose name is that of a hidden one is not hidden, and is read, written, reported and taken over as any other."""
+    """A user's file whose name is that of a hidden one is not hidden, and is read, written, reported and taken over as any other. What an
+    earlier session left of it is hidden."""
     (folder / "temporary").mkdir()
-    names = ["~~left~~ 1 + 2026-01-01 00:00:00", "~~anew~~ 1", "~~undo~~", "~~sam~~", "~~left~~ 0 - " + "x" * 60]
+    names = ["~~left~~ 1 + 2026-01-01 00:00:00", "~~anew~~ 1", "~~sam~~", "~~left~~ 0 - " + "x" * 60]
     for name in names:
         (folder / name).write_text("one\n")
-    with Staying(folder, *names, options=("--undo",)) as old:
+    (folder / f"{names[1]}.sam-saved").write_text("left\n")
+    with Staying(folder, *names, options=("--left",)) as old:
         seen = [old.terminal.name(tag) for tag in sorted(tag for tag in old.terminal.files() if tag != 0)]
-        expect_equal(seen[:4], names[:4], "the names in the session")
-        expect(seen[4].startswith("\u2026") and len(seen[4]) == 64, f"the long name is {seen[4]!r}")
-        expect_equal([note.number for note in old.of("ANEW")], [6], "the hidden files")
+        expect_equal(seen[:3], names[:3], "the names in the session")
+        expect(seen[3].startswith("\u2026") and len(seen[3]) == 64, f"the long name is {seen[3]!r}")
+        expect_equal([note.number for note in old.of("ANEW")], [5], "the hidden files")
         old.terminal.open(1)
         old.settle()
         old.type("two\n")
@@ -81,8 +83,8 @@ def check_names_that_front_ends_take_for_theirs(folder):
         told = f"not written: {names[0]}: {why}; its text is in {names[0]}.sam-saved"
         expect(told in old.said(), f"no {told!r} in {old.said()}")
         with Staying(folder, takes=old.name) as new:
-            expect_equal(names_of(new)[:4], names[:4], "the names for the new terminal")
-            expect_equal([note.number for note in new.of("ANEW")], [6], "the files that are hidden from it")
+            expect_equal(names_of(new), [*names[:3], seen[3]], "the names for the new terminal")
+            expect_equal(new.of("ANEW"), [], "the files that are hidden from it")
             new.terminal.open(1)
             new.settle()
             new.write()

@@ -34,11 +34,11 @@ def check_neighbours_copies_are_not_offered(folder):
     for name in ["a.txt.sam-saved", *(f"a.txt.sam-saved.{number}" for number in range(2, 30)), "a.txt.sam-old"]:
         (folder / name).write_text("planted\n")
         os.chown(folder / name, NOBODY, NOBODY)
-    with Session(folder, "a.txt", options=("--undo",)) as session:
+    with Session(folder, "a.txt", options=("--left",)) as session:
         told = [line for line in session.told() if "a.txt" in line]
         expect_equal(len(told), 1, f"of the lines {told} the number")
         expect_line(told, rf"a\.txt\.sam-(saved|old)(\.\d+)? is of another user, {owner}, and is not offered; nor are 29 more")
-        expect_equal(names_of(session), ["a.txt", "~~undo~~"], "the names")
+        expect_equal(names_of(session), ["a.txt"], "the names")
         expect_equal(session.end(), 0, "the status")
 
 
@@ -47,9 +47,9 @@ def check_neighbours_links_are_not_followed(folder):
     made(folder, a="one\n")
     (folder / "secret").write_text("secret\n")
     (folder / "a.txt.sam-saved").symlink_to("secret")
-    with Session(folder, "a.txt", options=("--undo",)) as session:
+    with Session(folder, "a.txt", options=("--left",)) as session:
         expect_equal(session.told(), [], "what it says")
-        expect_equal(names_of(session), ["a.txt", "~~undo~~"], "the names")
+        expect_equal(names_of(session), ["a.txt"], "the names")
 
 
 def check_neighbours_root_keeps_its_own(folder):
@@ -59,10 +59,10 @@ def check_neighbours_root_keeps_its_own(folder):
     os.chown(path, NOBODY, NOBODY)
     (folder / "a.txt.sam-saved").write_text("typed by root\n")
     os.chown(folder / "a.txt.sam-saved", NOBODY, NOBODY)
-    with Session(folder, "a.txt", options=("--undo",)) as session:
+    with Session(folder, "a.txt", options=("--left",)) as session:
         told = [line for line in session.told() if "a.txt" in line]
         expect_line(told, r"a.txt has a text that was not written: it is in a.txt.sam-saved.*")
-        expect_equal(len(names_of(session)), 3, f"of the names {names_of(session)} the number")
+        expect_equal(len(names_of(session)), 2, f"of the names {names_of(session)} the number")
 
 
 def check_neighbours_lock_holds_nothing_up(folder):
@@ -251,7 +251,7 @@ def check_neighbours_in_a_shared_folder(folder):
     (folder / "a.txt.sam-saved").write_text("of root\n")
     (folder / "a.txt.sam-saved.2").write_text("own\n")
     os.chown(folder / "a.txt.sam-saved.2", NOBODY, NOBODY)
-    command = [*prefix, SAMHOST, "--undo", "a.txt"]
+    command = [*prefix, SAMHOST, "--left", "a.txt"]
     told = [line for line in run_host(folder, command)[1] if "a.txt" in line]
     expect_line(told, rf"a\.txt\.sam-saved is of another user, {owner}, and is not offered")
     expect_line(told, r"a\.txt has a text that was not written: it is in a\.txt\.sam-saved\.2.*")
