@@ -7,6 +7,7 @@ import re
 import select
 import shlex
 import signal
+import statistics
 import sys
 import threading
 import time
@@ -49,10 +50,11 @@ def costs_of_keys(session):
 
 
 def expect_quick(session, most, what):
-    """No key takes more of the processor, or as many times more as the machine is slow; one of them may be held up by others."""
+    """A key takes no more of the processor, or as many times more as the machine is slow. The middle one of them counts: what would hold up
+    keys does that to each, and the work of others makes some of them three times dearer."""
     costs, slowness = sorted(costs_of_keys(session)), max(1, least_loop() / QUIET_LOOP)
     told = f"{what}: keys cost {[f'{cost * 1000:.0f}' for cost in costs]} ms, {slowness:.1f} times slowed"
-    expect(costs[-2] < most * slowness, told)
+    expect(statistics.median(costs) < most * slowness, told)
 
 
 def expect_end(session, what):
@@ -252,7 +254,7 @@ def expect_quick_help(session):
         session.read_until("~~sam~~")
     slowness = max(1, least_loop() / QUIET_LOOP)
     told = f"while names come keys cost {[f'{cost * 1000:.0f}' for cost in costs]} ms, {slowness:.1f} times slowed"
-    expect(max(costs) < MOST_FOR_A_KEY * slowness, told)
+    expect(statistics.median(costs) < MOST_FOR_A_KEY * slowness, told)
 
 
 class Steps:
