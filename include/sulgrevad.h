@@ -368,7 +368,8 @@ struct sam_did {
     size_t count;     /* the number of messages that the host took: 1 for SAM_STEP_ANSWERED, 1 or more for SAM_STEP_EDITED */
     sam_step step;
     sam_status why; /* the reason why the event was refused: SAM_REFUSAL.. */
-    uint32_t start; /* the change: from this place on, `gone` runes or gaps of the old text gave way to `came` of the new one */
+    uint32_t start; /* the change: from this place on, `gone` runes or gaps of the old text gave way to `came` of the new one; or, at
+                       SAM_CLIENT_RAN, what a command line printed: `came` runes from this place of the command file on */
     uint32_t gone;
     uint32_t came;
     uint32_t task; /* the task's number, as sam_client_begin or sam_client_write handed it out; 0 if this is the end of none */
@@ -1498,6 +1499,7 @@ SAM_MUST_USE sam_status sam_line_words(sam_line *line, uint8_t *into, size_t roo
  *     sam_client_next_event(&client, now, &kind, &did)  after any of these, until SAM_CLIENT_IDLE
  *     sam_client_next_splice(&client, &splice)          at SAM_CLIENT_STEPPED: each goes into the editor's own text, until SAM_NONE
  *     sam_client_note(&client, ..)                      at SAM_CLIENT_NOTE and SAM_CLIENT_ANSWERED: a message of the host's program
+ *     sam_client_text(&client, 0, ..)                   at SAM_CLIENT_RAN: what a command line printed
  *     sam_client_take_out(&client, attempt, ..)         bytes for the connection, until it hands out 0
  *     sam_client_due_in(&client, now, &left)            the program may sleep so long, or until bytes or keys come
  *
@@ -1518,6 +1520,8 @@ enum sam_client_event {
     SAM_CLIENT_NOTE = 4,       /* a note came: sam_client_note copies it; all frames before it are received */
     SAM_CLIENT_ANSWERED = 5,   /* a note came, which sam_client_note copies: it answers the task that sam_did has */
     SAM_CLIENT_UNANSWERED = 6, /* the session is over, and no answer comes to the task that sam_did has */
+    SAM_CLIENT_RAN = 7,        /* a command line has run: sam_did has its request, and where in the command file stands what it printed */
+    SAM_CLIENT_LAPSED = 8,     /* the session is over, and the request that sam_did has never acts, or its command line has no answer */
 
     SAM_CLIENT_WIDTH = 0x7FFFFFFF /* never handed out: it keeps the type at 32 bits under any compiler's options */
 };
@@ -1605,11 +1609,16 @@ SAM_MUST_USE sam_status sam_client_acknowledge(sam_client *client);
  * `event`, `request`, `task` and `why` alone at SAM_CLIENT_REFUSED: which event it was, counted from 1 over all events that acted or were
  * refused, edits that were put among them, and SAM_REFUSAL... If a request acted or was refused, `request` is its number, as sam_client_ask
  * handed it out: each is told once, in their order, over all connections. Requests by which the client loads a text by itself have numbers,
- * too, and are not told where they are refused. `task` is the task's number at SAM_CLIENT_ANSWERED, at SAM_CLIENT_UNANSWERED, and where the
- * write of sam_client_write is refused: each task ends once, by one of these. Else the fields are 0. Where nothing else moves, it asks for
- * what is to be loaded next (sam_client_see). Refused, in this order, and nothing is handed out then: SAM_WAITING if splices are left, and
- * all is as it was. Else some of what waited may be done, and nothing is lost: why the terminal has stopped, at this call or before,
- * SAM_STREAM.. or SAM_TERM_REFUSED..; SAM_COUNT_FULL; SAM_UNFINISHED if memory is short: call it again later. */
+ * too, which are told as they act or lapse, but not where they are refused. `task` is the task's number at SAM_CLIENT_ANSWERED, at
+ * SAM_CLIENT_UNANSWERED, and where the write of sam_client_write is refused: each task ends once, by one of these. At SAM_CLIENT_RAN
+ * `request` is the number of a command line (sam_client_run), `start` the place in the command file where stands what it printed, and
+ * `came` how many runes of that are told; all of these are loaded. At SAM_CLIENT_LAPSED `request` is the number of one that was not told
+ * before, or of a line whose end was not told. It comes once the session is over; and once the user has left, for a line of which not all
+ * is loaded. The session is over, for this and for SAM_CLIENT_UNANSWERED, once a message has said so (SAM_NOTE_ENDED, SAM_NOTE_TAKEN_OVER)
+ * or the host has refused the line for good. Else the fields are 0. Where nothing else moves, it asks for what is to be loaded next
+ * (sam_client_see). Refused, in this order, and nothing is handed out then: SAM_WAITING if splices are left, and all is as it was. Else
+ * some of what waited may be done, and nothing is lost: why the terminal has stopped, at this call or before, SAM_STREAM.. or
+ * SAM_TERM_REFUSED..; SAM_COUNT_FULL; SAM_UNFINISHED if memory is short: call it again later. */
 SAM_MUST_USE sam_status sam_client_next_event(sam_client *client, uint64_t now, sam_client_event *kind, sam_did *did);
 
 /* Goes on as sam_client_next_event does, and over each step that is an edit: of the host's (Hgrowdata, Hcut), of runes that are loaded
@@ -1655,10 +1664,11 @@ SAM_MUST_USE sam_status sam_client_replace_each(sam_client *client, uint16_t tag
  * stands behind it, and a range of which all goes is empty there. A place past the end of the text doesn't move: it is one of a text to
  * come, as of a file that is asked to be opened just before. Requests act in the order in which they were asked for. Hands out the number
  * of the request, counted from 1 over those that were taken: sam_client_next_event tells by it, once, that the request acted or was
- * refused. A write that would find the same text as one that waits is that one, and has its number. Refused, in this order, and client
- * and number are then as they were: SAM_NOT_TEXT if the text is not UTF-8; SAM_NO_MEMORY if there is no memory for its runes; SAM_NONE if
- * no event has this kind; SAM_COUNT_FULL if 2^64-1 requests were taken; SAM_WAITING while an edit was put that has not acted: go on first;
- * SAM_TOO_MANY if 1,000 requests wait; SAM_COUNT_FULL if 2^32-1 were taken while edits or requests waited; SAM_NO_MEMORY. */
+ * refused; or that the session is over, and it lapsed. A write that would find the same text as one that waits is that one, and has its
+ * number. Refused, in this order, and client and number are then as they were: SAM_NOT_TEXT if the text is not UTF-8; SAM_NO_MEMORY if
+ * there is no memory for its runes; SAM_NONE if no event has this kind; SAM_COUNT_FULL if 2^64-1 requests were taken; SAM_WAITING while an
+ * edit was put that has not acted: go on first; SAM_TOO_MANY if 1,000 requests wait; SAM_COUNT_FULL if 2^32-1 were taken while edits or
+ * requests waited; SAM_NO_MEMORY. */
 SAM_MUST_USE sam_status sam_client_ask(sam_client *client, const sam_event *event, const uint8_t *text, size_t len, uint64_t *number);
 
 /* Takes back the next insertion that waits over a file, if an edit could act at once and the file has no room for this one, because the
@@ -1687,10 +1697,27 @@ SAM_MUST_USE sam_status sam_client_begin(sam_client *client, uint32_t kind, uint
  * sam_client_ask refuses a write, in its order: SAM_COUNT_FULL, SAM_WAITING, SAM_TOO_MANY, SAM_COUNT_FULL, SAM_NO_MEMORY. */
 SAM_MUST_USE sam_status sam_client_write(sam_client *client, uint16_t tag, uint32_t *task);
 
+/* Has the host run a command line on an open file, from the file's dot on, as it is shown now: behind all that was asked for before. Makes
+ * the file the work file, opens the command file if it is not open, and types the line there in the place of its dot, between two newlines,
+ * of which the first ends what may stand before it. Hands out the number of the request that types its last newline. SAM_CLIENT_STEPPED
+ * tells by that number that the line begins; and SAM_CLIENT_RAN, once, that it has run, and where in the command file stands what it
+ * printed: at most 65,536 runes of that, all loaded, which sam_client_text reads before the client goes on. Or SAM_CLIENT_REFUSED or
+ * SAM_CLIENT_LAPSED tells that it doesn't run, or that its answer doesn't come. Its other requests have numbers, too, which nobody was
+ * handed. What it printed is loaded once no request waits, so a request to leave that stands behind the line may come first. Where the
+ * command file has 100,000 runes, and no other line is open, the line replaces them. Don't run a line on a file for whose end
+ * SAM_EVENT_CLOSE waits: the line would find another work file, or none. Refused, in this order, and client and number are then as they
+ * were: SAM_NOT_TEXT if the line is not UTF-8; SAM_NO_MEMORY if there is no memory for its runes; SAM_NOT_TEXT if it has a newline;
+ * SAM_REFUSAL_NOT_OPEN if the file is not open, is the command file, or the user has left (SAM_EVENT_EXIT, or the line `q`);
+ * SAM_REFUSAL_TEXT_TOO_LONG if it has more than 400,000 runes; SAM_TOO_MANY if 1,000 lines are open, or if more than 1,000 requests would
+ * wait, counting three of the line, and one for each 512 runes that it types. Refused, too, as sam_client_ask refuses one of these
+ * requests, in its order (SAM_COUNT_FULL, SAM_WAITING, SAM_COUNT_FULL, SAM_NO_MEMORY): the number is then as it was, and the line doesn't
+ * run, though its file may become the work file, and some of its runes may come to stand in the command file. */
+SAM_MUST_USE sam_status sam_client_run(sam_client *client, uint16_t tag, const uint8_t *line, size_t len, uint64_t *request);
+
 /* Notes what a window shows of a file, from the place `start` to the place `end`, in the place of what it showed before. While nothing else
- * waits, the client loads that by itself, then what is behind it and the rest of the file, in slices, but these only once nobody has
- * pressed a key for a second (sam_client_rest). Of several files, the one that was told last is first. Any tag and any place may be told,
- * also before the file is open. Refused: SAM_NO_MEMORY, and all is as it was. */
+ * waits, the client loads that by itself, behind what command lines have printed, then what is behind it and the rest of the file, in
+ * slices, but these only once nobody has pressed a key for a second (sam_client_rest). Of several files, the one that was told last is
+ * first. Any tag and any place may be told, also before the file is open. Refused: SAM_NO_MEMORY, and all is as it was. */
 SAM_MUST_USE sam_status sam_client_see(sam_client *client, uint16_t tag, uint32_t start, uint32_t end);
 
 /* Leaves out a file that no window shows: the client loads no more of it by itself. */

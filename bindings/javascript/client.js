@@ -3,19 +3,19 @@ import { editsOut, isFollowed, lendRoom, lendReplacements } from "./edits.js";
 import { PREFIX, make, makeOfBytes, one } from "./held.js";
 import { Clocked } from "./line.js";
 import { MOST_NOTE, bytesIn } from "./link.js";
-import { bytesOut, long, put, result, short, size, space, truth, u32, u64 } from "./module.js";
+import { NO_TEXT, bytesOf, bytesOut, long, put, result, short, size, space, truth, u32, u64 } from "./module.js";
 import { Shown } from "./overlay.js";
 import { Texts, terminalStep } from "./sides.js";
 
-const TOLD = ["idle", "busy", "stepped", "refused", "note", "answered", "unanswered"]; // enum sam_client_event of sulgrevad.h
-const WITH_STEP = ["stepped", "refused", "answered", "unanswered"];
+const TOLD = ["idle", "busy", "stepped", "refused", "note", "answered", "unanswered", "ran", "lapsed"]; // enum sam_client_event of sulgrevad.h
+const WITHOUT_STEP = ["idle", "busy", "note"];
 const TOLD_PLACE = 8; // a result behind a sam_did
 const NO_PATH = new Uint8Array(0);
 
 /** Returns the event that a call has handed out. */
 function toldOut() {
   const kind = TOLD[u32(TOLD_PLACE)];
-  return { kind, did: WITH_STEP.includes(kind) ? terminalStep() : null };
+  return { kind, did: WITHOUT_STEP.includes(kind) ? null : terminalStep() };
 }
 
 /** The user's side of a session, for a front end whose user never waits, over connections that may break. */
@@ -79,6 +79,11 @@ export class Client extends Clocked(Shown(Texts)) {
 
   write(tag) {
     return one(this, "write", u32, short(tag));
+  }
+
+  run(tag, line) {
+    makeOfBytes(this, "run", [short(tag)], bytesOf(line) ?? NO_TEXT, result(0));
+    return u64(0);
   }
 
   see(tag, start, end) {

@@ -1,7 +1,6 @@
 /* A session over WebSockets: it connects again by itself, tells how the shown texts change, and answers what is asked for by promises. */
 import { Answers, ByNumber } from "./answers.js";
 import { Client } from "./client.js";
-import { CommandLines } from "./command_lines.js";
 import { Document } from "./document.js";
 import { NoteKind, readNote, writeNote } from "./note.js";
 import { EventKind } from "./overlay.js";
@@ -14,6 +13,7 @@ const MESSAGES = 1; // the version of the session's messages
 const MOST_RUNES = 1_000_000; // of a text
 const PAGE = 4096; // runes
 const ALL_TAGS = 65_536;
+const COMMAND_FILE = 0; // its tag
 const NOT_DONE = [NoteKind.REFUSED, NoteKind.NOT_SAVED];
 const NOBODY = { resolve() {}, reject() {} };
 
@@ -68,10 +68,10 @@ function read(bytes) {
 export class Session extends EventTarget {
   #client;
   #wire;
-  #lines;
   #answers = new Answers(() => this.#goSoon());
   #requests = new ByNumber(); // those who wait until a request has acted
   #tasks = new ByNumber(); // those who wait until the host has answered a message
+  #runs = new ByNumber(); // those who wait until a command line has run
   #documents = new Map(); // by their tags
   #seen = new Map(); // the stretch that a window shows of each file, by its tag
   #isGreeted = false; // the first message has come
@@ -93,7 +93,6 @@ export class Session extends EventTarget {
     for (let failed = 0; failed < failures; failed++) this.#client.broken(this.#client.connected(now()), now());
     const heard = { moved: () => this.#goOn(), failed: (error) => this.#tell("fault", error) };
     this.#wire = new Wire(this.#client, typeof connect === "function" ? connect : () => new WebSocket(connect), heard);
-    this.#lines = new CommandLines(this, this.#answers, (...event) => this.#request(...event));
     this.#request(EventKind.OFFER_VERSION, { version: VERSION });
   }
 
@@ -261,7 +260,8 @@ export class Session extends EventTarget {
   async run(tag, line) {
     this.#check();
     if (!this.#client.file(tag).isOpen || this.#documents.get(tag)?.isClosing) throw new Missing(Status.NONE);
-    return this.#lines.run(tag, line);
+    if (line.includes("\n")) throw new RangeError("a command line has no newline inside");
+    return this.#answers.promise((answer) => this.#runs.add(this.#client.run(tag, line), answer));
   }
 
   async closeDocument(document) {
@@ -357,13 +357,21 @@ export class Session extends EventTarget {
   #meet({ kind, did }) {
     if (kind === "stepped") this.#requests.take(did.request).forEach((answer) => answer.resolve());
     if (kind === "refused") this.#meetRefusal(did);
+    if (kind === "ran") this.#meetRun(did);
     if (kind === "note") this.#hear(read(this.#client.note));
     if (kind === "answered") this.#hear(read(this.#client.note), this.#tasks.take(did.task));
     this.#tellSplices(kind === "stepped" && did.kind === Kind.HGROW);
   }
 
   #meetRefusal({ request, task, why }) {
-    for (const answer of [...this.#requests.take(request), ...this.#tasks.take(task)]) answer.reject(errorOf(why));
+    for (const waiting of [this.#requests.take(request), this.#tasks.take(task), this.#runs.take(request)]) {
+      for (const answer of waiting) answer.reject(errorOf(why));
+    }
+  }
+
+  #meetRun({ request, change: { start, came } }) {
+    const printed = this.#client.text(COMMAND_FILE, start, came);
+    for (const answer of this.#runs.take(request)) answer.resolve(printed);
   }
 
   #tellSplices(isGap = false) {

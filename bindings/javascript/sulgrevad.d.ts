@@ -911,10 +911,11 @@ export declare class Line extends Clocked {
  * things moved that are not told, and more may; `stepped`: `did` says which frame was received or which event acted, and the splices are
  * to be taken; `refused`: an event was refused, whose number and reason `did` has; `note`: a note came, which `note` of the client has;
  * `answered`: a note came, which `note` has, and it answers the task `did.task`; `unanswered`: the session is over, and no answer comes to
- * that task. */
+ * that task; `ran`: the command line `did.request` has run, and `did.change` says where in the command file stands what it printed;
+ * `lapsed`: the session is over, and the request `did.request` never acts, or its command line has no answer. */
 export type ClientEvent =
   | { kind: "idle" | "busy" | "note"; did: null }
-  | { kind: "stepped" | "refused" | "answered" | "unanswered"; did: TerminalStep };
+  | { kind: "stepped" | "refused" | "answered" | "unanswered" | "ran" | "lapsed"; did: TerminalStep };
 
 /** The user's side of a session in one handle, for a front end whose user never waits, over connections that may break: an overlay, and its
  * line to the host. It moves all between the two by itself. It opens no connection and has no clock: calls take the time, as those of a
@@ -977,6 +978,16 @@ export declare class Client extends Clocked {
    * text as one that waits is that task. Throws, in this order, and no task is begun then: a SamError with the code TOO_MANY if 1,000 tasks
    * are open; CountFull; NoMemory; then as `ask` does. */
   write(tag: number): number;
+  /** Has the host run a command line on an open file, from the file's dot on, as it is shown now: behind all that was asked for before.
+   * Returns the number of the request that types its newline. `nextEvent` tells once that the line has run (`ran`), and then all is loaded
+   * that is told of what it printed: at most 65,536 runes, from `did.change.start` of the command file on, which has tag 0. Or it tells by
+   * that number that the line was refused, or lapsed. The command file is opened for it, and emptied at 100,000 runes. Throws, in this
+   * order, and the client is then as it was: NotText if the line is not UTF-8; NoMemory; NotText if it has a newline; EditRefused
+   * (REFUSAL_NOT_OPEN) if the file is not open, is the command file, or the user has left, (REFUSAL_TEXT_TOO_LONG) if the line has more
+   * than 400,000 runes; a SamError with the code TOO_MANY if 1,000 lines are open, or 1,000 requests would wait: it has one for each 512
+   * runes, and three more. Or as `ask` does, in its order: the line doesn't run then, though some of its runes may come to stand in the
+   * command file. */
+  run(tag: number, line: Text): number;
   /** Notes what a window shows of a file, from the place `start` to the place `end`, in the place of what it showed before. While nothing
    * else waits, the client loads that by itself, then what is behind it and the rest of the file, in slices, but these only once nobody has
    * pressed a key for a second (`rest`). Of several files, the one that was told last is first. Any tag and any place may be told, also
@@ -1129,9 +1140,10 @@ export declare class Session extends EventTarget {
    * Rejects with RequestRefused if the host could not write the text, and then the file is unsaved; EditRefused if it is closed;
    * NoMemory, SessionOver and SessionLost. */
   write(tag: number): Promise<Note>;
-  /** Runs a command line on an open file as it is shown now, and returns what the line printed: one that is wrong prints `?` and why.
-   * docs/reference/COMMANDS.md has the lines. Rejects with Missing if the file is not open, RangeError for a newline in the line, in which
-   * `\n` stands for one, NotText, NoMemory, SessionOver and SessionLost. */
+  /** Runs a command line on an open file as it is shown now, and returns what the line printed, at most 65,536 runes of it: one that is
+   * wrong prints `?` and why. docs/reference/COMMANDS.md has the lines. Rejects with Missing if the file is not open, RangeError for a
+   * newline in the line, in which `\n` stands for one, NotText, NoMemory, EditRefused for a line of more than 400,000 runes, or one for
+   * which the command file has no room, a SamError with the code TOO_MANY if 1,000 requests would wait, SessionOver and SessionLost. */
   run(tag: number, line: string): Promise<string>;
   /** Closes a document, after all edits that were made before: what is not written is lost. */
   closeDocument(document: Document): Promise<void>;

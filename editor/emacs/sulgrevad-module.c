@@ -291,20 +291,24 @@ static emacs_value step_of(emacs_env *env, sam_client *client)
     return call(env, "nreverse", 1, &all);
 }
 
-/* Goes on until something is told, as the functions above have it, or why a request was refused: `refused' and words. nil if nothing is. */
+/* Goes on until something is told, as the functions above have it; or that a request was refused: `refused', why, and its number; or that a
+ * command line has run: `ran', its number, and where in the command file stands what it printed, and how long. nil if nothing is. */
 static emacs_value next_event(emacs_env *env, struct session *session, emacs_value *words)
 {
     sam_client_event told = SAM_CLIENT_BUSY;
     sam_did did;
     sam_status status = SAM_OK;
-    while (status == SAM_OK && (told == SAM_CLIENT_BUSY || told == SAM_CLIENT_UNANSWERED)) /* the end is told by itself */
+    /* The end is told by itself. */
+    while (status == SAM_OK && (told == SAM_CLIENT_BUSY || told == SAM_CLIENT_UNANSWERED || told == SAM_CLIENT_LAPSED))
         status = sam_client_next_event(&session->client, time_of(env, words[0]), &told, &did);
     if (status != SAM_OK)
         return error_of(env, status);
     return told == SAM_CLIENT_STEPPED    ? step_of(env, &session->client)
            : told == SAM_CLIENT_NOTE     ? note_of(env, &session->client, "note")
            : told == SAM_CLIENT_ANSWERED ? note_of(env, &session->client, "answered")
-           : told == SAM_CLIENT_REFUSED  ? LIST(env, env->intern(env, "refused"), words_of(env, did.why))
+           : told == SAM_CLIENT_REFUSED  ? LIST(env, env->intern(env, "refused"), words_of(env, did.why), integer(env, did.request))
+           : told == SAM_CLIENT_RAN      ? LIST(env, env->intern(env, "ran"), integer(env, did.request), integer(env, did.start),
+                                                integer(env, did.came))
                                          : nil(env);
 }
 
@@ -330,6 +334,12 @@ static emacs_value see(emacs_env *env, struct session *session, emacs_value *wor
     return done(env, sam_client_see(&session->client, tag_of(env, words[0]), 0, SAM_MOST_RUNES));
 }
 
+/* Whether the status says why something can't be, which may be told the user. */
+static bool is_refusal(sam_status status)
+{
+    return status == SAM_NOT_TEXT || (status > SAM_REFUSAL && status < SAM_SCRIPT);
+}
+
 /* A text takes the place of the shown runes of a file from a place to a place. Why it can't, or nil. */
 static emacs_value replace(emacs_env *env, struct session *session, emacs_value *words)
 {
@@ -340,17 +350,15 @@ static emacs_value replace(emacs_env *env, struct session *session, emacs_value 
         return nil(env);
     sam_status status = sam_client_replace(&session->client, tag_of(env, words[0]), start, end, text, len);
     free(text);
-    bool is_refused = status == SAM_NOT_TEXT || (status > SAM_REFUSAL && status < SAM_SCRIPT);
-    return is_refused ? words_of(env, status) : done(env, status);
+    return is_refusal(status) ? words_of(env, status) : done(env, status);
 }
 
 /* Asks for an event of a kind, with a file, two numbers and a text, which are not read if the kind has none. */
 static emacs_value ask(emacs_env *env, struct session *session, emacs_value *words)
 {
     static const char *const names[] = {
-        [SAM_EVENT_SELECT] = "select",     [SAM_EVENT_OPEN] = "open", [SAM_EVENT_WRITE] = "write",
-        [SAM_EVENT_CLOSE] = "close",       [SAM_EVENT_WORK] = "work", [SAM_EVENT_OFFER_VERSION] = "offer-version",
-        [SAM_EVENT_OPEN_CMD] = "open-cmd", [SAM_EVENT_EXIT] = "exit", [SAM_EVENT_TYPE_CMD] = "type-cmd"};
+        [SAM_EVENT_SELECT] = "select", [SAM_EVENT_OPEN] = "open", [SAM_EVENT_WRITE] = "write",
+        [SAM_EVENT_CLOSE] = "close",   [SAM_EVENT_EXIT] = "exit", [SAM_EVENT_OFFER_VERSION] = "offer-version"};
     sam_event event = {.tag = tag_of(env, words[1]), .start = u32(env, words[2], UINT32_MAX), .number = u32(env, words[3], UINT32_MAX)};
     event.version = (uint16_t)event.number;
     for (size_t i = 0; i < sizeof names / sizeof names[0]; i++)
@@ -364,6 +372,19 @@ static emacs_value ask(emacs_env *env, struct session *session, emacs_value *wor
     sam_status status = sam_client_ask(&session->client, &event, text, len, &request);
     free(text);
     return status == SAM_NONE ? error_of(env, status) : done(env, status);
+}
+
+/* Has the host run a command line on a file. The number of its request, or words why it can't. */
+static emacs_value run(emacs_env *env, struct session *session, emacs_value *words)
+{
+    size_t len = 0;
+    uint8_t *line = utf8_in(env, words[1], &len);
+    if (line == NULL)
+        return nil(env);
+    uint64_t request = 0;
+    sam_status status = sam_client_run(&session->client, tag_of(env, words[0]), line, len, &request);
+    free(line);
+    return is_refusal(status) || status == SAM_TOO_MANY ? words_of(env, status) : number(env, status, request);
 }
 
 /* ---- Readers ---- */
@@ -486,6 +507,7 @@ struct function {
 static const struct function functions[] = {
     {"id", id, 0},
     {"ask", ask, 5},
+    {"run", run, 2},
     {"see", see, 1},
     {"tick", tick, 1},
     {"file", file, 1},

@@ -49,6 +49,9 @@ The host says it, and it becomes a word of a command.")
 
 (defvar sulgrevad--line nil "The line to the host.")
 (defvar sulgrevad--told nil "What was told last, the last first.")
+(defvar sulgrevad--lines nil
+  "The command lines that are asked for.
+Of each its number, and behind it what it printed, or `refused'.")
 (defvar sulgrevad--complaints nil
   "What the host told of files whose last write failed.
 Of each its tag, and in a pair the note and the name that it had.")
@@ -131,10 +134,17 @@ Return whether there is something."
          (told (sulgrevad-client-next-event sulgrevad--client (sulgrevad-line--now))))
     (pcase told
       (`(stepped . ,splices) (sulgrevad--take splices))
-      (`(refused ,why) (message "Sulgrevad: %s" why))
+      (`(ran ,request ,place ,count) (sulgrevad--answer-line request (sulgrevad--shown 0 place (+ place count))))
+      (`(refused ,why ,request) (sulgrevad--answer-line request 'refused)
+                                (message "Sulgrevad: %s" why))
       (`(answered . ,note) (sulgrevad--meet-answer note))
       (`(note . ,note) (sulgrevad--meet note)))
     told))
+
+(defun sulgrevad--answer-line (request answer)
+  "Note the ANSWER to the command line of this REQUEST, if it is one."
+  (let ((line (assq request sulgrevad--lines)))
+    (when line (setcdr line answer))))
 
 (defun sulgrevad--drop ()
   "Take back a text for which the host left no room.

@@ -28,7 +28,6 @@
 
 (defconst sulgrevad-version-offered 2 "The version of the protocol.")
 (defconst sulgrevad-most-runes 1000000 "How many runes a text has at most.")
-(defconst sulgrevad-most-typed 512 "How many runes of a command line are typed at once.")
 (defconst sulgrevad--is-folder 5 "The code of a path that is a folder's.")
 (defconst sulgrevad--replacing '((11 . "another program changed it") (12 . "it is there already"))
   "Codes of writes that would have replaced what stands in the file.")
@@ -67,6 +66,7 @@ another terminal's."
     (setq line (sulgrevad-line-make
                 command (lambda (event what) (when (eq line sulgrevad--line) (sulgrevad--hear event what))) takes-over)
           sulgrevad--line line
+          sulgrevad--lines nil
           sulgrevad--client (sulgrevad-line-client line))
     (condition-case why (sulgrevad-line-connect line (funcall words (sulgrevad-line-name line)) t)
       ((error quit) (setq sulgrevad--client nil sulgrevad--line nil)
@@ -80,9 +80,7 @@ another terminal's."
 (defun sulgrevad--await-names ()
   "Wait until the host has told the names of the session's files."
   (sulgrevad--ask 'offer-version 0 0 sulgrevad-version-offered)
-  (sulgrevad--ask 'open-cmd)
-  (sulgrevad-client-see sulgrevad--client 0) ; what command lines print
-  (unless (sulgrevad--wait (lambda () (and (sulgrevad-file-is-open (sulgrevad--file 0)) (sulgrevad--is-idle))) t)
+  (unless (sulgrevad--wait #'sulgrevad--is-idle t)
     (user-error "The host is gone: %s" (string-join (reverse sulgrevad--told) "; "))))
 
 (defun sulgrevad--show-first ()
@@ -343,33 +341,37 @@ NAMES-AT gives the names that complete a path, without their folder."
 Return what it prints, which the buffer *sam* has, too."
   (interactive "sCommand: ")
   (sulgrevad--settle "A command line")
-  (let* ((tag sulgrevad--tag) (tick (buffer-chars-modified-tick)) (from (sulgrevad--type-line line)) (printed nil))
-    (when (sulgrevad--wait (lambda () (and (sulgrevad--is-answered tag) (sulgrevad--is-answered 0))) t)
-      (setq printed (sulgrevad--shown 0 (min from (sulgrevad-file-len (sulgrevad--file 0)))))
-      (with-current-buffer (get-buffer-create "*sam*")
-        (goto-char (point-max))
-        (insert line "\n" printed))
-      (when sulgrevad--tag
-        (let* ((file (sulgrevad--file tag)) (start (sulgrevad-file-dot-start file)) (end (sulgrevad-file-dot-end file)))
-          (push-mark (1+ start) t (< start end))
-          (unless (eql tick (buffer-chars-modified-tick)) (deactivate-mark)) ; as after any edit
-          (goto-char (1+ end))))
-      (unless (string-empty-p printed) (message "%s" printed)))
+  (let* ((tag sulgrevad--tag) (tick (buffer-chars-modified-tick)) (request (sulgrevad--run line)) (printed nil))
+    (unwind-protect
+        (when (sulgrevad--wait (lambda () (and (alist-get request sulgrevad--lines) (sulgrevad--is-answered tag))) t)
+          (setq printed (alist-get request sulgrevad--lines)))
+      (setq sulgrevad--lines (assq-delete-all request sulgrevad--lines)))
+    (when (eq printed 'refused) (user-error "The command file has no room for the line"))
+    (when printed (sulgrevad--show-answer line printed tag tick))
     (or printed "")))
 
-(defun sulgrevad--type-line (line)
+(defun sulgrevad--show-answer (line printed tag tick)
+  "Show what the command LINE PRINTED, and go to the dot of the file TAG.
+TICK is how often its buffer had changed when the line was asked for."
+  (with-current-buffer (get-buffer-create "*sam*")
+    (goto-char (point-max))
+    (insert line "\n" printed))
+  (when sulgrevad--tag
+    (let* ((file (sulgrevad--file tag)) (start (sulgrevad-file-dot-start file)) (end (sulgrevad-file-dot-end file)))
+      (push-mark (1+ start) t (< start end))
+      (unless (eql tick (buffer-chars-modified-tick)) (deactivate-mark)) ; as after any edit
+      (goto-char (1+ end))))
+  (unless (string-empty-p printed) (message "%s" printed)))
+
+(defun sulgrevad--run (line)
   "Have the host run the command LINE on the buffer and its region.
-Return the place in the command file behind it."
-  (let* ((typed (concat line "\n")) (old (sulgrevad--shown 0)) (from (1+ (or (cl-position ?\n old :from-end t) -1))))
-    (when (< sulgrevad-most-runes (+ from (length typed))) (user-error "The command file has no room for so long a line"))
-    (sulgrevad--ask 'select sulgrevad--tag
-                    (1- (if (use-region-p) (region-beginning) (point))) (1- (if (use-region-p) (region-end) (point))))
-    (sulgrevad--ask 'work sulgrevad--tag)
-    (sulgrevad--ask 'select 0 from (length old))
-    (dolist (part (seq-partition typed sulgrevad-most-typed))
-      (sulgrevad--ask 'type-cmd 0 0 0 part)
-      (sulgrevad--pump))                ; so many requests don't wait at once
-    (+ from (length typed))))
+Return the number of its request."
+  (sulgrevad--ask 'select sulgrevad--tag
+                  (1- (if (use-region-p) (region-beginning) (point))) (1- (if (use-region-p) (region-end) (point))))
+  (let ((request (sulgrevad-client-run sulgrevad--client sulgrevad--tag line)))
+    (when (stringp request) (user-error "The line can't run: %s" request))
+    (push (list request) sulgrevad--lines)
+    request))
 
 ;;; Writing
 

@@ -29,18 +29,21 @@
            (is-said "SAM_REFUSAL_NO_FILE"
                     (said (lambda () (sulgrevad--ask 'write 7777) (run-hooks 'post-command-hook)))))
     (check "nothing is said twice" (null (said (lambda () (run-hooks 'post-command-hook)))))
-    ;; The command file gets room for 1005 more: for the first 512 runes of the next line and for the last 482, but not for both and what
-    ;; is between.
+    (check "a line that is too long is an error"
+           (condition-case nil (ignore (sulgrevad-command (make-string 400001 ?\s))) (user-error t)))
+    (check "so are two lines" (condition-case nil (ignore (sulgrevad-command "1p\n2p")) (user-error t)))
+    (check "no part of them runs" (equal (sulgrevad--text) text) (sulgrevad--text))
+    ;; The command file is nearly full.
     (erase-buffer)
-    (insert (make-string (- 1000000 1005 (length (sulgrevad--shown 0)) (length ",p\n\n")) ?k) "\n")
-    (said (lambda () (sulgrevad-command ",p")))
-    (check "there is room for some of a line" (= (- 1000000 1005) (length (sulgrevad--shown 0))) (length (sulgrevad--shown 0)))
+    (insert (make-string 990000 ?k))
+    (let (printed)
+      (said (lambda () (setq printed (sulgrevad-command ",p"))))
+      (check "the front of what a line prints is told" (equal printed (make-string 65536 ?k)) (length printed)))
+    (sulgrevad-command (concat ",c/" (make-string 1501 ?j) "/"))
+    (check "the next line runs all the same" (equal (sulgrevad--text) (make-string 1501 ?j)) (buffer-size))
     (erase-buffer)
     (insert text)
-    (check "a line that the command file has no room for is an error"
-           (condition-case nil (ignore (sulgrevad-command (concat ",c/" (make-string 1501 ?k) "/"))) (user-error t)))
-    (check "no part of it runs" (equal (sulgrevad--text) text) (sulgrevad--text))
-    (same "at the client neither")))
+    (same "the client has the text again")))
 
 (defun check-hidden ()
   "Changes of a locked file reach the client, whether a hook tells of them or not."
@@ -55,7 +58,7 @@
 
   ;; The same while the host changes it.
   (let ((text (sulgrevad--text)))
-    (sulgrevad--type-line ",x/hidden/c/the host's/")
+    (sulgrevad--run ",x/hidden/c/the host's/")
     (sulgrevad--pump)
     (goto-char (point-max))
     (insert " buffer's")
@@ -464,7 +467,7 @@
   (same (format "an edit after %d requests" number))
   (check "it stands" (string-suffix-p (format "%d é" number) (sulgrevad--text)) (sulgrevad--text))
   (sulgrevad--wait #'is-answered)
-  (sulgrevad--type-line ",x/é/c/日/")
+  (sulgrevad--run ",x/é/c/日/")
   (sulgrevad--pump)
   (short-of-memory file number
     (accept-process-output (process) 5)

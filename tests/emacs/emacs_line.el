@@ -507,7 +507,7 @@
     (undo-once)
     (check "and is one step of undo" (equal (sulgrevad--text) "one two one\n") (sulgrevad--text)))
   ;; What is typed while a line is on its way is a step of its own.
-  (sulgrevad--type-line ",x/two/c/2/")
+  (sulgrevad--run ",x/two/c/2/")
   (goto-char (point-min))
   (insert "typed ")
   (sulgrevad--wait #'is-answered)
@@ -646,7 +646,7 @@ exec \"$@\"" "sh") (relayed))))
   "Signs stand for what is not loaded yet of what a command line puts in over the line SLOW: all else can be edited, they can't."
   (let ((word (make-string 3000 ?y)) (sign nil))
     (sulgrevad-start slow (made "signs.txt" "front\nink\nback\n"))
-    (sulgrevad--type-line (format ",x/ink/c/%s/" word))
+    (sulgrevad--run (format ",x/ink/c/%s/" word))
     (sulgrevad--wait (lambda () (setq sign (text-property-any (point-min) (point-max) 'sulgrevad-gap t))))
     (check "signs stand for what is not loaded" sign (sulgrevad--text))
     (when sign
@@ -674,7 +674,7 @@ exec \"$@\"" "sh") (relayed))))
   "What the host leaves no room for goes into the kill ring, and that is said."
   (let ((text (make-string 999000 ?f)) (more (make-string 950 ?h)) (typed (make-string 100 ?t)))
     (sulgrevad-start (list samhost) (made "full.txt" text))
-    (sulgrevad--type-line (format "$a/%s/" more))
+    (sulgrevad--run (format "$a/%s/" more))
     (sulgrevad--pump)
     (goto-char (point-min))
     (insert typed)

@@ -199,6 +199,7 @@ SIGNATURES: Dict[str, Tuple[Any, ...]] = {
     "client_replace_each": (c_uint16, POINTER(CReplacement), c_size_t, *_BYTES, _SIZE),
     "client_drop_next": (c_uint16, POINTER(CSplice), *_BUFFER, _SIZE),
     "client_begin": (c_uint32, c_uint16, *_BYTES, c_uint64, _U32), "client_write": (c_uint16, _U32),
+    "client_run": (c_uint16, *_BYTES, _U64),
     "client_see": (c_uint16, c_uint32, c_uint32), "client_forget": (c_uint16,), "client_rest": (c_uint64,),
     "client_has_all": (_BOOL,),
     "client_is_unsaved": (c_uint16, _BOOL), "client_requests": (_SIZE,),

@@ -36,25 +36,29 @@ class ClientEventKind(enum.IntEnum):
     NOTE = 4
     ANSWERED = 5
     UNANSWERED = 6
+    RAN = 7
+    LAPSED = 8
 
 
 class ClientEvent(NamedTuple):
     """What a client told. IDLE: nothing moves until the host or the user does something, or the time comes; BUSY: 1,000 things moved that
     are not told, and more may; STEPPED: `did` says which frame was received or which event acted, and the splices are to be taken;
     REFUSED: an event was refused, whose number and reason `did` has; NOTE: a note came, which `note` of the client has; ANSWERED: a note
-    came, which `note` has, and it answers the task `did.task`; UNANSWERED: the session is over, and no answer comes to that task."""
+    came, which `note` has, and it answers the task `did.task`; UNANSWERED: the session is over, and no answer comes to that task; RAN: the
+    command line `did.request` has run, and `did.change` says where in the command file stands what it printed; LAPSED: the session is over,
+    and the request `did.request` never acts, or its command line has no answer."""
 
     kind: ClientEventKind
     did: Optional[TerminalDid] = None
 
 
 KINDS = tuple(ClientEventKind)  # by their numbers
-_WITH_DID = (ClientEventKind.STEPPED, ClientEventKind.REFUSED, ClientEventKind.ANSWERED, ClientEventKind.UNANSWERED)
+_WITHOUT_DID = (ClientEventKind.IDLE, ClientEventKind.BUSY, ClientEventKind.NOTE)
 
 
 def _event_of(kind: ClientEventKind, did: Did) -> ClientEvent:
     """Returns what was told."""
-    return ClientEvent(kind, did_of(did) if kind in _WITH_DID else None)
+    return ClientEvent(kind, None if kind in _WITHOUT_DID else did_of(did))
 
 
 class _EditReader:
@@ -204,6 +208,18 @@ class Client(Clocked, Shown, Stopping):
         find the same text as one that waits is that task. Raises, in this order, and no task is begun then: TooMany if 1,000 tasks are
         open; CountFull; NoMemory; then as `ask` does."""
         return self._number("write", c_uint32, tag)
+
+    def run(self, tag: int, line: Text) -> int:
+        """Has the host run a command line on an open file, from the file's dot on, as it is shown now: behind all that was asked for before.
+        Returns the number of the request that types its newline. `next_event` tells once that the line has run (RAN), and then all is
+        loaded that is told of what it printed: at most 65,536 runes, from `did.change.start` of the command file on, which has tag 0. Or it
+        tells by that number that the line was refused, or lapsed. The command file is opened for it, and emptied at 100,000 runes. Raises,
+        in this order, and the client is then as it was: NotText if the line is not UTF-8; NoMemory; NotText if it has a newline; EditRefused
+        (REFUSAL_NOT_OPEN) if the file is not open, is the command file, or the user has left, (REFUSAL_TEXT_TOO_LONG) if the line has more
+        than 400,000 runes; TooMany if 1,000 lines are open, or 1,000 requests would wait: it has one for each 512 runes, and three more. Or
+        as `ask` does, in its order: the line doesn't run then, though some of its runes may come to stand in the command file."""
+        line = bytes_of(line)
+        return self._number("run", ctypes.c_uint64, tag, line, len(line))
 
     def see(self, tag: int, start: int, end: int) -> None:
         """Notes what a window shows of a file, from the place `start` to the place `end`, in the place of what it showed before. While

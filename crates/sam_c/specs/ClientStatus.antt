@@ -2,10 +2,13 @@
 use Rattle.std.specs.Prelude.{ℕ, [], ◌∷◌, Option, Result, Ok, Err}
 use Rattle.sam_mesg.specs.Bounds.{entry}
 use Rattle.sam_note.specs.declared.fault.NoteFault.TheVariants as note
+use Rattle.sam_term.specs.declared.fault.Refusal.TheVariants as refusal
 use Rattle.sam_client.specs.declared.fault.GoOnFault.{GoOnFault}
 use Rattle.sam_client.specs.declared.fault.GoOnFault.TheVariants.{Stopped, CountFull, OutOfMemory}
 use Rattle.sam_front.specs.declared.fault.BeginFault.{BeginFault}
 use Rattle.sam_front.specs.declared.fault.BeginFault.TheVariants as unbegun
+use Rattle.sam_front.specs.declared.fault.RunFault.{RunFault}
+use Rattle.sam_front.specs.declared.fault.RunFault.TheVariants as unrun
 use Rattle.sam_front.specs.declared.fault.WriteFault.{WriteFault}
 use Rattle.sam_front.specs.declared.fault.WriteFault.TheVariants as unwritten
 use Rattle.sam_front.specs.declared.told.Order.{Order}
@@ -14,7 +17,7 @@ use Rattle.sam_front.specs.declared.told.Told.{Told}
 use Rattle.sam_front.specs.declared.told.Told.TheVariants as tell
 use Rattle.sam_c.specs.Notes.{fault_status}
 use Rattle.sam_c.specs.OverlayStatus.{ask_fault}
-use Rattle.sam_c.specs.Status.{ok, no_memory, unfinished, count_full, too_many, term_stop_status}
+use Rattle.sam_c.specs.Status.{ok, no_memory, not_text, unfinished, count_full, too_many, refusal_status, term_stop_status}
 
 -- what is told
 abbrev pub event_number : Told → ℕ
@@ -25,6 +28,8 @@ event_number (tell.Refused refused) = 3
 event_number tell.Note = 4
 event_number (tell.Answered task) = 5
 event_number (tell.Unanswered task) = 6
+event_number (tell.Ran ran) = 7
+event_number (tell.Lapsed request) = 8
 
 -- why a client doesn't go on: nothing is lost where memory was refused
 abbrev pub go_on_fault : GoOnFault → ℕ
@@ -58,3 +63,11 @@ abbrev pub write_status : Result ℕ WriteFault → ℕ
 write_status (Ok task) = ok
 write_status (Err (unwritten.Begin why)) = begin_fault why
 write_status (Err (unwritten.Ask why)) = ask_fault why
+
+-- why a command line is not asked for
+abbrev pub run_status : Result ℕ RunFault → ℕ
+run_status (Ok request) = ok
+run_status (Err unrun.NotLine) = not_text
+run_status (Err unrun.NotOpen) = refusal_status refusal.NotOpen
+run_status (Err unrun.TooLong) = refusal_status refusal.TextTooLong
+run_status (Err (unrun.Ask why)) = ask_fault why

@@ -34,14 +34,16 @@ use Rattle.sam_client.specs.declared.replacement.Replaced.{Replaced}
 use Rattle.sam_client.specs.declared.replacement.Replacement.{Replacement}
 use Rattle.sam_front.specs.Fronts as front
 use Rattle.sam_front.specs.Loader.{PlainLoader, later, rest_time, without}
+use Rattle.sam_front.specs.Running as running
 use Rattle.sam_front.specs.declared.fault.BeginFault.{BeginFault}
+use Rattle.sam_front.specs.declared.fault.RunFault.{RunFault}
 use Rattle.sam_front.specs.declared.fault.WriteFault.{WriteFault}
 use Rattle.sam_front.specs.declared.loader.Seen.{Seen}
 use Rattle.sam_front.specs.declared.told.Order.{Order}
 use Rattle.sam_front.specs.declared.told.Told.{Told}
 use Rattle.sam_front.specs.declared.told.Told.TheVariants as tell
 use Rattle.sam_c.specs.Calls.{AtHandle}
-use Rattle.sam_c.specs.ClientStatus.{begin_status, event_number, go_on_status, order_of, write_status}
+use Rattle.sam_c.specs.ClientStatus.{begin_status, event_number, go_on_status, order_of, run_status, write_status}
 use Rattle.sam_c.specs.LineStatus.{receive_status, tick_number}
 use Rattle.sam_c.specs.Lines.{CopiesWords}
 use Rattle.sam_c.specs.LinkStatus.{call_status, note_status, out_status, put_status}
@@ -146,6 +148,8 @@ did_of_told (tell.Refused x) = record (did_of_term (step.Refused x.event x.why))
 did_of_told tell.Note = did_nothing 0
 did_of_told (tell.Answered task) = record (did_nothing 0) { task = task }
 did_of_told (tell.Unanswered task) = record (did_nothing 0) { task = task }
+did_of_told (tell.Ran x) = record (did_nothing 0) { request = x.request; start = x.place; came = x.count }
+did_of_told (tell.Lapsed request) = record (did_nothing 0) { request = request }
 
 -- what is told, or what stood there before
 abbrev pub heard_or : Heard → Result Told GoOnFault → Heard
@@ -161,6 +165,8 @@ splices_after before (tell.Refused x) = before
 splices_after before tell.Note = before
 splices_after before (tell.Answered task) = before
 splices_after before (tell.Unanswered task) = before
+splices_after before (tell.Ran x) = before
+splices_after before (tell.Lapsed request) = before
 
 abbrev pub splices_or : List Splice → Result Told GoOnFault → List Splice
 splices_or before (Ok told) = splices_after before told
@@ -313,6 +319,21 @@ WritesOne e tag before status g =
 abbrev pub ClientWrote : Option ClientEnd → ℕ → ℕ → ℕ → ℕ → Option ClientEnd → Type 0
 ClientWrote None tag old status new after = (status ≡ no_handle) × (new ≡ old) × (after ≡ None)
 ClientWrote (Some e) tag old status new after = (g : ClientEnd) × (after ≡ Some g) × WritesOne e tag old status (g, new)
+
+-- a command line is asked for, and the number of its request handed out beside the client
+abbrev pub RunsOne : ClientEnd → ℕ → List ℕ → ℕ → ℕ → Counted → Type 0
+RunsOne e tag line before status g =
+    (result : Result ℕ RunFault) × running.RunsLine e.front tag line result g.0.front × (g.0.splices ≡ e.splices)
+    × (status ≡ run_status result) × (g.1 ≡ handed_or before result)
+
+abbrev pub ClientRanOne : Option ClientEnd → ℕ → List ℕ → ℕ → ℕ → ℕ → Option ClientEnd → Type 0
+ClientRanOne None tag line old status new after = (status ≡ no_handle) × (new ≡ old) × (after ≡ None)
+ClientRanOne (Some e) tag line old status new after = (g : ClientEnd) × (after ≡ Some g) × RunsOne e tag line old status (g, new)
+
+abbrev pub ClientRan : Option ClientEnd → ℕ → List ℕ → ℕ → ℕ → ℕ → Option ClientEnd → Type 0
+ClientRan None tag text old status new after = (status ≡ no_handle) × (new ≡ old) × (after ≡ None)
+ClientRan (Some e) tag text old status new after =
+    (g : ClientEnd) × (after ≡ Some g) × WithText (e, old) text (λ line status g. RunsOne e tag line old status g) status (g, new)
 
 -- the same with this loader
 abbrev pub with_loader : ClientEnd → PlainLoader → ClientEnd

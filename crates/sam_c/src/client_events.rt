@@ -41,6 +41,16 @@ fn did_of_told(told: &Told) -> SamDid
             task: *task,
             ..did_nothing(IDLE)
         },
+        Told::Ran(ran) => SamDid {
+            request: ran.request,
+            start: ran.place,
+            came: ran.count,
+            ..did_nothing(IDLE)
+        },
+        Told::Lapsed(request) => SamDid {
+            request: *request,
+            ..did_nothing(IDLE)
+        },
         Told::Refused(refused) => SamDid {
             request: refused.request,
             task: refused.task,

@@ -1,14 +1,17 @@
 //! The numbers by which C knows what a client tells, why it doesn't go on, and why a task is not begun: include/sulgrevad.h names them.
 
 ghost use Rattle.std.specs.Prelude.{◌≡◌};
-ghost use Rattle.sam_c.specs.ClientStatus.{begin_fault, begin_status, event_number, go_on_fault, order_of, write_status};
+ghost use Rattle.sam_c.specs.ClientStatus.{begin_fault, begin_status, event_number, go_on_fault, order_of, run_status, write_status};
 
 use crate::note_calls::fault_status;
 use crate::overlay_status::ask_status;
-use crate::status::{COUNT_FULL, NO_MEMORY, OK, TOO_MANY, UNFINISHED, term_stop_status};
+use crate::status::{
+    COUNT_FULL, NO_MEMORY, NOT_TEXT, OK, TOO_MANY, UNFINISHED, refusal_status, term_stop_status,
+};
 use sam_client::GoOnFault;
-use sam_front::{BeginFault, Order, Told, WriteFault};
+use sam_front::{BeginFault, Order, RunFault, Told, WriteFault};
 use sam_note::NoteFault;
+use sam_term::Refusal;
 
 /// Returns the number of what is told.
 pub(crate) fn event_number(told: &Told) -> u32
@@ -22,6 +25,8 @@ pub(crate) fn event_number(told: &Told) -> u32
         Told::Note => 4,
         Told::Answered(_) => 5,
         Told::Unanswered(_) => 6,
+        Told::Ran(_) => 7,
+        Told::Lapsed(_) => 8,
     }
 }
 
@@ -80,5 +85,18 @@ pub(crate) fn write_status(came: Result<u32, WriteFault>) -> u32
         Ok(_) => OK,
         Err(WriteFault::Begin(why)) => begin_fault(why),
         Err(WriteFault::Ask(why)) => ask_status::<u32>(Err(why)),
+    }
+}
+
+/// Returns the number of what came of a command line that was to be asked for.
+pub(crate) fn run_status(came: Result<u64, RunFault>) -> u32
+    ensures { result ≡ run_status came }
+{
+    match came {
+        Ok(_) => OK,
+        Err(RunFault::NotLine) => NOT_TEXT,
+        Err(RunFault::NotOpen) => refusal_status(Refusal::NotOpen),
+        Err(RunFault::TooLong) => refusal_status(Refusal::TextTooLong),
+        Err(RunFault::Ask(why)) => ask_status::<u32>(Err(why)),
     }
 }

@@ -3,15 +3,17 @@
 //! milliseconds.
 
 ghost use Rattle.std.specs.Prelude.{Some};
-ghost use Rattle.sam_c.specs.Clients.{BeginsOne, ClientBegun, ClientForgot, ClientRested, ClientSaw, ClientWrote, WritesOne};
+ghost use Rattle.sam_c.specs.Clients.{BeginsOne, ClientBegun, ClientForgot, ClientRan, ClientRanOne, ClientRested, ClientSaw, ClientWrote, RunsOne, WritesOne};
 
 use crate::client_end::ClientEnd;
-use crate::client_status::{begin_status, order_of, write_status};
+use crate::client_status::{begin_status, order_of, run_status, write_status};
 use crate::handle::{SamClient, with_end};
 use crate::note_calls::fault_status;
 use crate::status::{NO_HANDLE, NO_MEMORY, OK};
+use crate::term_events::read_status;
 use sam_front::{Order, Seen};
 use sam_note::NoteFault;
+use sam_runes::read_utf8;
 use std::alloc::Global;
 
 /// Begins a task of a client, and hands out its number.
@@ -79,6 +81,50 @@ pub extern "C" fn sam_client_write(
     ensures { ClientWrote client.old.held.end tag task.old result task.new client.new.held.end }
 {
     with_end!(client alloc mut end { write(&mut end, tag, task) })
+}
+
+/// Has a client take a command line, and hands out its number.
+fn run(end: &mut ClientEnd, tag: u16, line: &[char], request: &mut u64, alloc: Global) -> u32
+    ensures { RunsOne end.old tag line.now request.old result (end.new, request.new) }
+{
+    let came = end.front.run(tag, line, alloc);
+    if let Ok(number) = came {
+        *request = number;
+    }
+    run_status(came)
+}
+
+/// Has the client that a handle holds take a command line.
+fn run_one(client: &mut SamClient, tag: u16, line: &[char], request: &mut u64, alloc: Global) -> u32
+    ensures { ClientRanOne client.old.held.end tag line.now request.old result request.new client.new.held.end }
+{
+    with_end!(client alloc mut end { run(&mut end, tag, line, request, alloc) })
+}
+
+/// Has the host run a command line on an open file, behind what was asked for before, and hands out the number of its request:
+/// `sam_client_next_event` tells once that it has run, and what it printed, or that it was refused, or lapsed.
+///
+/// Returns `SAM_OK`, or in this order `SAM_NO_HANDLE`; `SAM_NOT_TEXT` if the line is not UTF-8, and `SAM_NO_MEMORY` if there is no memory
+/// for its runes; what [`Front::run`](sam_front::Front::run) answers, in its order: `SAM_NOT_TEXT` for a newline,
+/// `SAM_REFUSAL_NOT_OPEN`, `SAM_REFUSAL_TEXT_TOO_LONG`, `SAM_TOO_MANY`, `SAM_NO_MEMORY` for the line; `SAM_COUNT_FULL`, `SAM_WAITING`,
+/// `SAM_NO_MEMORY` for a request. After an error the line doesn't run, and the number is as it was.
+#[unsafe(no_mangle)]
+pub extern "C" fn sam_client_run(
+    client: &mut SamClient,
+    tag: u16,
+    line: &[u8],
+    request: &mut u64,
+    alloc: Global,
+) -> u32
+    ensures { ClientRan client.old.held.end tag line.now request.old result request.new client.new.held.end }
+{
+    if !client.is_made() {
+        return NO_HANDLE;
+    }
+    match read_utf8(alloc, line) {
+        Ok(runes) => run_one(client, tag, runes.as_slice(), request, alloc),
+        Err(why) => read_status(why),
+    }
 }
 
 /// Notes what a window shows of a file: that is loaded first, and the rest of the file while nobody types. Errors, in this order:

@@ -1,3 +1,5 @@
 pub mod LoaderLaws
 pub mod TaskLaws
 pub mod FrontLaws
+pub mod RunLaws
+pub mod RunningLaws

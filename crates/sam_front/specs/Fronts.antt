@@ -1,6 +1,6 @@
 -- A front: a client, with the numbers of its requests, what the host's program has to answer, and what is loaded. Times are in
 -- milliseconds.
-use Rattle.std.specs.Prelude.{◌≡◌, ◌⊎◌, ◌↔◌, ℕ, ◌-◌, ◌^◌, ◌<◌, ◌==◌, ◌&&◌, ◌||◌, Bool, true, false, not, max, min, nat_lt, if◌then◌else◌, List, [], drop, length, map, slice_get, Option, Some, None, is_some, option_map, Result, Ok, Err}
+use Rattle.std.specs.Prelude.{◌≡◌, ◌⊎◌, ◌↔◌, ℕ, ◌+◌, ◌-◌, ◌^◌, ◌<◌, ◌==◌, ◌&&◌, ◌||◌, Bool, true, false, not, max, min, nat_le, nat_lt, if◌then◌else◌, List, [], ◌∷◌, drop, length, map, slice_get, Option, Some, None, is_some, option_map, Result, Ok, Err}
 use Rattle.std.specs.List.{find}
 use Rattle.sam_link.specs.declared.fault.NoteFault.{NoteFault}
 use Rattle.sam_link.specs.declared.fault.NoteFault.TheVariants as note
@@ -22,7 +22,7 @@ use Rattle.sam_term.specs.declared.event.UserEvent.TheVariants as event
 use Rattle.sam_term.specs.declared.fault.Refusal.{Refusal}
 use Rattle.sam_endpoint.specs.declared.step.TermStep.{TermStep}
 use Rattle.sam_endpoint.specs.declared.step.TermStep.TheVariants as step
-use Rattle.sam_overlay.specs.Calls.{has_edit_at}
+use Rattle.sam_overlay.specs.Calls.{gap_from, has_edit_at, shown_at}
 use Rattle.sam_overlay.specs.Numbers.{after_asking, after_telling, no_numbers, number_of, told_number}
 use Rattle.sam_overlay.specs.declared.fault.AskFault.{AskFault}
 use Rattle.sam_overlay.specs.declared.fault.AskFault.TheVariants as ask
@@ -36,7 +36,8 @@ use Rattle.sam_client.specs.declared.event.Event.{Event}
 use Rattle.sam_client.specs.declared.event.Event.TheVariants as tell
 use Rattle.sam_client.specs.declared.fault.GoOnFault.{GoOnFault}
 use Rattle.sam_client.specs.declared.fault.GoOnFault.TheVariants as stop
-use Rattle.sam_front.specs.Loader.{acted, ended, first_slice, gaps_of, is_locked, is_slice, is_view, later, new_loader, next_at, refused, rest_time, stepped, stretch_of}
+use Rattle.sam_front.specs.Loader.{acted, ended, first_slice, gaps_of, is_locked, is_slice, is_view, later, new_loader, next_at, not_before, page, refused, rest_time, stepped, stretch_of}
+use Rattle.sam_front.specs.Runs.{first_ran, has_acted, run_after, without_run}
 use Rattle.sam_front.specs.Tasks.{Begins, PlainTasks, Shares, closed, is_due, no_tasks, number_of_write, place_of, said}
 use Rattle.sam_front.specs.Tasks as tasks
 use Rattle.sam_front.specs.declared.fault.BeginFault.{BeginFault}
@@ -48,6 +49,8 @@ use Rattle.sam_front.specs.declared.loader.Next.{Next}
 use Rattle.sam_front.specs.declared.loader.Next.TheVariants as next
 use Rattle.sam_front.specs.declared.loader.Slice.{Slice}
 use Rattle.sam_front.specs.declared.loader.Stretch.{Stretch}
+use Rattle.sam_front.specs.declared.runs.Ran.{Ran}
+use Rattle.sam_front.specs.declared.runs.Run.{Run}
 use Rattle.sam_front.specs.declared.tasks.Task.{Task}
 use Rattle.sam_front.specs.declared.told.Order.{Order}
 use Rattle.sam_front.specs.declared.told.Order.TheVariants as order
@@ -58,7 +61,9 @@ abbrev pub new_front : Id → Bool → ℕ → Front
 new_front id take_over now = record {
   client = new_client id take_over now;
   numbers = no_numbers;
+  asked = 0;
   tasks = no_tasks;
+  runs = [];
   loader = new_loader;
   told = 0;
   loads_at = None;
@@ -75,12 +80,19 @@ with_client f c = record f { client = c }
 abbrev pub with_tasks : Front → PlainTasks → Front
 with_tasks f t = record f { tasks = t }
 
+abbrev pub with_runs : Front → List Run → Front
+with_runs f rs = record f { runs = rs }
+
 -- so many requests wait
 abbrev pub requests_of : Front → ℕ
 requests_of f = length f.client.ordered.queue
 
 abbrev pub term_of : Front → PlainTerminal
 term_of f = f.client.ordered.overlay.end.term
+
+-- how many runes and gaps the command file has; 0 if it is not open
+abbrev pub command_len : Front → ℕ
+command_len f = if is_open (term_of f) 0 then length (shown_at f.client.ordered.overlay 0) else 0
 
 -- the client does it, and all else stays
 abbrev pub ActsOne : Front → Act → Front → Type 0
@@ -95,7 +107,8 @@ Types f act n = Does f.client act n.client × (n ≡ record f { client = n.clien
 -- a request that was taken has its number
 abbrev pub Numbers : Front → Result Asked AskFault → Result ℕ AskFault → Front → Type 0
 Numbers f (Ok x) answer n =
-    (answer ≡ Ok (number_of f.numbers (requests_of n) x)) × (n ≡ record f { client = n.client; numbers = after_asking f.numbers x })
+    let number = number_of f.numbers (requests_of n) x in
+    (answer ≡ Ok number) × (n ≡ record f { client = n.client; numbers = after_asking f.numbers x; asked = max f.asked number })
 Numbers f (Err why) answer n = (answer ≡ Err why) × (n ≡ with_client f n.client)
 
 -- the request is taken, and numbered; none is once there are no more numbers
@@ -230,20 +243,24 @@ abbrev pub rested : Front → ℕ → Front
 rested f now =
     if f.has_typed then record f { has_typed = false; loader = record f.loader { rests_until = later now rest_time } } else f
 
+-- one that was told before is not told again
+abbrev pub once : ℕ → ℕ → ℕ
+once told number = if nat_le number told then 0 else number
+
 -- the number of the request that a step tells of; 0 if it tells of none
 abbrev pub request_of : Front → TermStep → ℕ
-request_of f s = told_number f.numbers (requests_of f) s
+request_of f s = once f.told (told_number f.numbers (requests_of f) s)
 
 -- the step is told
 abbrev pub telling : Front → TermStep → Front
 telling f s = record f { numbers = after_telling f.numbers (requests_of f) s; told = max f.told (request_of f s) }
 
--- the refusal of a load is not told. Any other closes the task of its request, and this is told with it
+-- the refusal of a load is not told. Any other closes the task and the command line of its request, and the task is told with it
 abbrev pub TellsRefusal : Bool → Front → ℕ → Refusal → ℕ → ℕ → Told → Front → Type 0
 TellsRefusal true f number why request now answer n = (answer ≡ told.Busy) × (n ≡ record f { loader = refused f.loader request now })
 TellsRefusal false f number why request now answer n =
     (answer ≡ told.Refused (record { event = number; why = why; request = request; task = number_of_write request f.tasks.waiting }))
-    × (n ≡ with_tasks f (closed (number_of_write request f.tasks.waiting) f.tasks))
+    × (n ≡ with_runs (with_tasks f (closed (number_of_write request f.tasks.waiting) f.tasks)) (without_run request f.runs))
 
 -- such a message answers the task that has its request's number
 abbrev pub is_answer : NoteKind → Bool
@@ -321,9 +338,35 @@ may_load f = requests_of f == 0 && (not (term_of f).has_exited && is_open_state 
 abbrev pub sized : Front → Front
 sized f = if is_open_state f.client.line.clock.state then f else record f { loader = record f.loader { size = first_slice } }
 
+-- the first place of what a command line printed whose rune is not loaded, if there is one
+abbrev pub gap_before : ℕ → Option ℕ → Option ℕ
+gap_before end None = None
+gap_before end (Some gap) = if nat_lt gap end then Some gap else None
+
+abbrev pub end_of : Ran → ℕ
+end_of r = min (r.place + r.count) (2 ^ 32 - 1)
+
+abbrev pub missing_of : Front → Ran → Option ℕ
+missing_of f r =
+    gap_before (end_of r) (if is_open (term_of f) 0 then gap_from r.place (shown_at f.client.ordered.overlay 0) else None)
+
+-- what the oldest command line printed comes first, as much as is loaded at once, once it has run and the command file is free; else what
+-- the loader says
+abbrev pub load_missing : Front → Ran → Option ℕ → ℕ → Next → Next
+load_missing f r None now other = other
+load_missing f r (Some gap) now other =
+    if is_locked (term_of f) 0 then other else not_before f.loader.pauses_until now (next.Load 0 gap (min (end_of r - gap) (max f.loader.size page)))
+
+abbrev pub load_ran : Front → Option Ran → ℕ → Next → Next
+load_ran f None now other = other
+load_ran f (Some r) now other = load_missing f r (missing_of f r) now other
+
+abbrev pub next_load : Front → ℕ → Next
+next_load f now = load_ran f (first_ran f.runs) now (next_at (gaps_of f.client.ordered.overlay) f.loader now)
+
 abbrev pub BeginsSlice : Bool → Front → ℕ → Result Bool GoOnFault → Front → Type 0
 BeginsSlice false f now answer n = (answer ≡ Ok false) × (n ≡ sized f)
-BeginsSlice true f now answer n = LoadsNext f (next_at (gaps_of f.client.ordered.overlay) f.loader now) now answer n
+BeginsSlice true f now answer n = LoadsNext f (next_load f now) now answer n
 
 -- what was being loaded has come: its request has acted, and its file is free
 abbrev pub has_come : Front → Slice → Bool
@@ -375,16 +418,53 @@ is_lost_state s = false
 abbrev pub is_lost : Front → Bool
 is_lost f = f.is_over || is_lost_state f.client.line.clock.state
 
--- the oldest task is told as one without an answer; once none is left, nothing is told
-abbrev pub gone : Option ℕ → Told
-gone None = told.Idle
-gone (Some number) = told.Unanswered number
+-- The oldest task is told as one without an answer. Once none is left, the oldest command line whose newline has acted is told as lapsed;
+-- then each request that was not told, one by one; then nothing
+abbrev pub acted_run : Run → Option ℕ
+acted_run r = if has_acted r.state then Some r.request else None
 
-abbrev pub drops_first : Front → Told
-drops_first f = gone (option_map tasks.number_of (slice_get f.tasks.waiting 0))
+abbrev pub told_run_in : List Run → Option ℕ
+told_run_in [] = None
+told_run_in (r ∷ rs) = acted_run r
 
-abbrev pub without_first : Front → Front
-without_first f = with_tasks f (record f.tasks { waiting = drop 1 f.tasks.waiting })
+abbrev pub told_run : Front → Option ℕ
+told_run f = told_run_in f.runs
+
+-- without that line
+abbrev pub without_ran : Front → Front
+without_ran f = if is_some (told_run f) then with_runs f (drop 1 f.runs) else f
+
+abbrev pub lapsed_request : Front → Told
+lapsed_request f = if nat_le f.asked f.told then told.Idle else told.Lapsed (f.told + 1)
+
+abbrev pub lapsed_run : Front → Option ℕ → Told
+lapsed_run f None = lapsed_request f
+lapsed_run f (Some request) = told.Lapsed request
+
+abbrev pub lapsed_task : Front → Option ℕ → Told
+lapsed_task f None = lapsed_run f (told_run f)
+lapsed_task f (Some number) = told.Unanswered number
+
+abbrev pub first_task : Front → Option ℕ
+first_task f = option_map tasks.number_of (slice_get f.tasks.waiting 0)
+
+abbrev pub lapsed : Front → Told
+lapsed f = lapsed_task f (first_task f)
+
+abbrev pub lapsing_request : Front → Front
+lapsing_request f =
+    if nat_le f.asked f.told then f else record f { told = f.told + 1; runs = without_run (f.told + 1) f.runs }
+
+abbrev pub lapsing_run : Front → Option ℕ → Front
+lapsing_run f None = lapsing_request f
+lapsing_run f (Some request) = with_runs f (drop 1 f.runs)
+
+abbrev pub lapsing_task : Front → Option ℕ → Front
+lapsing_task f None = lapsing_run f (told_run f)
+lapsing_task f (Some number) = with_tasks f (record f.tasks { waiting = drop 1 f.tasks.waiting })
+
+abbrev pub lapsing : Front → Front
+lapsing f = lapsing_task f (first_task f)
 
 -- ## What a client told
 
@@ -393,22 +473,55 @@ Settles f (Ok true) now answer n = (answer ≡ Ok told.Busy) × (n ≡ f)
 Settles f (Ok false) now answer n = (answer ≡ Ok told.Idle) × Knows f now n
 Settles f (Err why) now answer n = (answer ≡ Err why) × (n ≡ f)
 
--- Where the client rests, the tasks of a session that is over are told one by one. Of another one texts are loaded; where there is nothing
--- to load now either, the line learns whether an answer is due
-abbrev pub Idles : Bool → Front → ℕ → Result Told GoOnFault → Front → Type 0
-Idles true f now answer n = (answer ≡ Ok (drops_first f)) × (n ≡ without_first f)
-Idles false f now answer n = (loads : Result Bool GoOnFault) × (m : Front) × Loads f now loads m × Settles m loads now answer n
+-- what the oldest command line printed, if it has run and all that is told of it is loaded
+abbrev pub if_loaded : Front → Ran → Option ℕ → Option Ran
+if_loaded f r None = Some r
+if_loaded f r (Some gap) = None
 
--- a step is told with the number of its request, a load that acts is noted, and for a while no slice is loaded
+abbrev pub ended_in : Front → Option Ran → Option Ran
+ended_in f None = None
+ended_in f (Some r) = if_loaded f r (missing_of f r)
+
+abbrev pub ended_run : Front → Option Ran
+ended_run f = ended_in f (first_ran f.runs)
+
+-- where the user has left, the oldest command line whose newline has acted
+abbrev pub left_run : Front → Option ℕ
+left_run f = if (term_of f).has_exited then told_run f else None
+
+-- without that line
+abbrev pub without_left : Front → Front
+without_left f = if (term_of f).has_exited then without_ran f else f
+
+abbrev pub Leaving : Option ℕ → Front → ℕ → Result Told GoOnFault → Front → Type 0
+Leaving (Some request) f now answer n = (answer ≡ Ok (told.Lapsed request)) × (n ≡ without_left f)
+Leaving None f now answer n = (loads : Result Bool GoOnFault) × (m : Front) × Loads f now loads m × Settles m loads now answer n
+
+-- Of a session that is over, what is left open is told one by one. Where the user has left, a command line of which not all is loaded lapses.
+-- Else texts are loaded; where there is nothing to load now either, the line learns whether an answer is due
+abbrev pub Loading : Bool → Front → ℕ → Result Told GoOnFault → Front → Type 0
+Loading true f now answer n = (answer ≡ Ok (lapsed f)) × (n ≡ lapsing f)
+Loading false f now answer n = Leaving (left_run f) f now answer n
+
+-- where the client rests, a command line that has run is told
+abbrev pub Idles : Option Ran → Front → ℕ → Result Told GoOnFault → Front → Type 0
+Idles (Some r) f now answer n = (answer ≡ Ok (told.Ran r)) × (n ≡ with_runs f (drop 1 f.runs))
+Idles None f now answer n = Loading (is_lost f) f now answer n
+
+-- a step is told with the number of its request, a load that acts and a command line that begins or ends are noted, and for a while no slice
+-- is loaded
 abbrev pub stepping : Front → TermStep → ℕ → Front
-stepping f s now = record (telling f s) { loader = stepped (record f.loader { slice = acted f.loader.slice (request_of f s) }) now }
+stepping f s now = record (telling f s) {
+  loader = stepped (record f.loader { slice = acted f.loader.slice (request_of f s) }) now;
+  runs = map (run_after (request_of f s) (command_len f) (term_of f).command_lock) f.runs;
+}
 
 -- the request is a load, or the last one that emptied a view
 abbrev pub is_own : Front → ℕ → Bool
 is_own f request = is_slice f.loader.slice request || is_view f.loader.view request
 
 abbrev pub Tells : Front → Result Event GoOnFault → ℕ → Result Told GoOnFault → Front → Type 0
-Tells f (Ok tell.Idle) now answer n = Idles (is_lost f) f now answer n
+Tells f (Ok tell.Idle) now answer n = Idles (ended_run f) f now answer n
 Tells f (Ok tell.Busy) now answer n = (answer ≡ Ok told.Busy) × (n ≡ f)
 Tells f (Ok tell.Note) now answer n = (x : Told) × Hears f x n × (answer ≡ Ok x)
 Tells f (Ok (tell.Stepped x)) now answer n = (answer ≡ Ok (told.Stepped x (request_of f x.step))) × (n ≡ stepping f x.step now)

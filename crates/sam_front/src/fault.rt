@@ -66,3 +66,20 @@ pub enum WriteFault {
     #[error("the request is not taken")]
     Ask(AskFault),
 }
+
+/// Why a command line is not asked for.
+#[derive(Clone, Copy, Debug, PartialEq, Eq, Drop, Error)]
+pub enum RunFault {
+    /// It has a newline inside.
+    #[error("a newline in a command line")]
+    NotLine,
+    /// The file is not open, it is the command file, or the session is over.
+    #[error("the file is not open")]
+    NotOpen,
+    /// It has more than `MOST_LINE` runes.
+    #[error("the command line is too long")]
+    TooLong,
+    /// The client doesn't take a request of it.
+    #[error("a request is not taken")]
+    Ask(AskFault),
+}

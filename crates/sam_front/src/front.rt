@@ -6,14 +6,15 @@ ghost use Rattle.sam_line.specs.Line.{is_due};
 ghost use Rattle.sam_overlay.specs.Overlays.{is_request};
 ghost use Rattle.sam_client.specs.Batches.{ReplacesEach};
 ghost use Rattle.sam_client.specs.Clients.Act.{Replace};
-ghost use Rattle.sam_front.specs.Fronts.{Asks, AsksView, BeginsLoad, BeginsSlice, BeginsTask, EmptiesView, EndsSlice, FrontGoesOn, Hears, Idles, Knows, Loads, LoadsNext, LoadsStretch, Says, SaysTask, SaysWrite, Tells, TellsRefusal, Types, Waits, WritesTask, can_be_written, due_write, ends, has_come, is_answer, is_lost, is_open_state, is_own, may_load, new_front, request_of, rested, say_fault, sooner, stepping, task_message, telling};
+ghost use Rattle.sam_front.specs.Fronts.{Asks, AsksView, BeginsLoad, BeginsSlice, BeginsTask, EmptiesView, EndsSlice, FrontGoesOn, Hears, Idles, Knows, Loads, LoadsNext, LoadsStretch, Says, SaysTask, SaysWrite, Tells, TellsRefusal, Types, Waits, WritesTask, can_be_written, command_len, due_write, ended_run, ends, has_come, is_answer, is_lost, is_open_state, is_own, lapsed, lapsing, left_run, may_load, missing_of, new_front, next_load, request_of, rested, say_fault, sooner, stepping, task_message, telling, told_run, without_left, without_ran};
 ghost use Rattle.sam_front.specs.Loader.{later, rest_time, without};
 ghost use Rattle.sam_overlay.specs.Calls.{has_edit_at};
 ghost use Rattle.sam_front.specs.Tasks.{number_of_write};
 ghost use Rattle.sam_term.specs.Term.{is_any_locked, is_open};
 
 use crate::fault::{BeginFault, WriteFault};
-use crate::loader::{Loader, Next, Seen, Slice, Stretch, loaded_at_once};
+use crate::loader::{Loader, Next, Seen, Slice, Stretch, loaded_at_once, not_before};
+use crate::runs::{Ran, RunState, Runs};
 use crate::tasks::{Task, Tasks};
 use crate::told::{Order, Refused, Told};
 use sam_client::{Client, Event, GoOnFault, Replaced, Replacement};
@@ -39,6 +40,8 @@ use std::alloc::{AllocError, Global};
 ///         Told::Refused(refused) => tell(refused.why),
 ///         Told::Note => hear(front.client.note()),
 ///         Told::Unanswered(number) => forget(number),
+///         Told::Ran(ran) => print(ran.place, ran.count),
+///         Told::Lapsed(request) => tell_lapsed(request),
 ///         Told::Busy => {}
 ///         Told::Idle => break,
 ///     }
@@ -51,8 +54,12 @@ pub struct Front {
     pub client: Client,
     /// The numbers of its requests.
     numbers: RequestNumbers,
+    /// The number of its newest request.
+    asked: u64,
     /// What the host's program has to answer.
     tasks: Tasks,
+    /// The command lines that are not answered.
+    pub(crate) runs: Runs,
     /// What is loaded of texts.
     loader: Loader,
     /// The number of the request that was told last.
@@ -135,7 +142,9 @@ impl Front {
         Front {
             client: Client::new(alloc, id, take_over, now),
             numbers: RequestNumbers::new(),
+            asked: 0,
             tasks: Tasks::new(alloc),
+            runs: Runs::new(alloc),
             loader: Loader::new(alloc),
             told: 0,
             loads_at: None,
@@ -182,7 +191,9 @@ impl Front {
         match self.client.ask(event) {
             Ok(asked) => {
                 let waiting = self.client.requests();
-                Ok(self.numbers.number(asked, waiting))
+                let number = self.numbers.number(asked, waiting);
+                self.asked = self.asked.max(number);
+                Ok(number)
             }
             Err(why) => Err(why),
         }
@@ -322,7 +333,7 @@ impl Front {
     }
 
     /// Returns whether the terminal takes a write of a file: else it refuses it, and a message in front of it would find another one.
-    fn can_be_written(&self, tag: u16) -> bool
+    pub(crate) fn can_be_written(&self, tag: u16) -> bool
         ensures { result ≡ can_be_written self.now tag }
     {
         let is_open = self.client.overlay().shown_len(tag).is_some();
@@ -356,14 +367,17 @@ impl Front {
 
     // ---- What the client told
 
-    /// Returns the number of the request that a step tells of, which is then the last.
+    /// Returns the number of the request that a step tells of, which is then the last; 0 if that one was told before.
     fn tell(&mut self, step: TermStep) -> u64
         ensures number { result ≡ request_of self.old step }
         ensures after { self.new ≡ telling self.old step }
     {
-        let request = self.numbers.tell(step, self.client.requests());
-        self.told = self.told.max(request);
-        request
+        let number = self.numbers.tell(step, self.client.requests());
+        if number <= self.told {
+            return 0;
+        }
+        self.told = number;
+        number
     }
 
     /// Notes a step, and returns the number of its request; 0 if it has none.
@@ -374,7 +388,17 @@ impl Front {
         let request = self.tell(step);
         self.loader.note_acted(request);
         self.loader.note_step(now);
+        let is_locked = self.client.overlay().end().term().command_locked();
+        let len = self.command_len();
+        self.runs.note_step(request, len, is_locked);
         request
+    }
+
+    /// Returns how many runes and gaps the command file has; 0 if it is not open.
+    pub(crate) fn command_len(&self) -> u32
+        ensures { result ≡ command_len self.now }
+    {
+        self.client.overlay().shown_len(0).unwrap_or(0)
     }
 
     /// Tells a refusal, but of a load by itself.
@@ -386,6 +410,7 @@ impl Front {
             return Told::Busy;
         }
         let task = self.tasks.refuse(request);
+        self.runs.close(request);
         Told::Refused(Refused {
             event,
             why,
@@ -514,6 +539,32 @@ impl Front {
         }
     }
 
+    /// Returns the first place of what a line printed whose rune is not loaded; `None` if all of it is loaded.
+    fn missing_of(&self, ran: Ran) -> Option<u32>
+        ensures { result ≡ missing_of self.now ran }
+    {
+        match self.client.overlay().first_gap(0, ran.place) {
+            Some(gap) if gap < ran.place.saturating_add(ran.count) => Some(gap),
+            _ => None,
+        }
+    }
+
+    /// Returns what is to be loaded of what the oldest line printed, while the command file is free; else what the loader says.
+    fn next_load(&self, now: u64) -> Next
+        ensures { result ≡ next_load self.now now }
+    {
+        if let Some(ran) = self.runs.first_ran() {
+            if let Some(gap) = self.missing_of(ran) {
+                if !self.client.overlay().end().term().locked(0) {
+                    let count = ran.place.saturating_add(ran.count).saturating_sub(gap);
+                    let count = count.min(self.loader.at_once());
+                    return not_before(Next::Load(0, gap, count), self.loader.pauses_until(), now);
+                }
+            }
+        }
+        self.loader.next(self.client.overlay(), now)
+    }
+
     /// Asks for what is to be loaded next, if a load may begin, and returns whether it did.
     fn begin_slice(&mut self, now: u64) -> Result<bool, GoOnFault>
         ensures { BeginsSlice (may_load self.old) self.old now result self.new }
@@ -524,7 +575,7 @@ impl Front {
             }
             return Ok(false);
         }
-        let next = self.loader.next(self.client.overlay(), now);
+        let next = self.next_load(now);
         self.load_next(next, now)
     }
 
@@ -582,15 +633,78 @@ impl Front {
 
     // ---- Going on
 
-    /// Does what is to be done where the client has nothing to do: closes the tasks of a session that is over, or loads.
-    fn go_on_idle(&mut self, now: u64) -> Result<Told, GoOnFault>
-        ensures { Idles (is_lost self.old) self.old now result self.new }
+    /// Returns what the oldest line printed, if it has run and all that is told of it is loaded.
+    fn ended_run(&self) -> Option<Ran>
+        ensures { result ≡ ended_run self.now }
     {
+        match self.runs.first_ran() {
+            Some(ran) => match self.missing_of(ran) {
+                Some(_) => None,
+                None => Some(ran),
+            },
+            None => None,
+        }
+    }
+
+    /// Closes the oldest line of a session that is over, if its newline has acted, and returns its number.
+    fn lapse_run(&mut self) -> Option<u64>
+        ensures number { result ≡ told_run self.old }
+        ensures after { self.new ≡ without_ran self.old }
+    {
+        match self.runs.first() {
+            Some(run) if run.state != RunState::Waits => {
+                self.runs.drop_first();
+                Some(run.request)
+            }
+            _ => None,
+        }
+    }
+
+    /// Closes the oldest task of a session that is over, then the oldest line, then the oldest request that was not told.
+    fn lapse(&mut self) -> Told
+        ensures told { result ≡ lapsed self.old }
+        ensures after { self.new ≡ lapsing self.old }
+    {
+        if let Some(number) = self.tasks.drop_first() {
+            return Told::Unanswered(number);
+        }
+        if let Some(number) = self.lapse_run() {
+            return Told::Lapsed(number);
+        }
+        if self.told >= self.asked {
+            return Told::Idle;
+        }
+        self.told += 1;
+        self.runs.close(self.told);
+        Told::Lapsed(self.told)
+    }
+
+    /// Closes the oldest line, if its newline has acted and the user has left, and returns its number: no more of what it printed comes.
+    fn lapse_left(&mut self) -> Option<u64>
+        ensures number { result ≡ left_run self.old }
+        ensures after { self.new ≡ without_left self.old }
+    {
+        if self.client.overlay().end().term().exited() {
+            self.lapse_run()
+        } else {
+            None
+        }
+    }
+
+    /// Does what is to be done where the client has nothing to do: tells of a line that has run, closes what a session that is over leaves
+    /// open, or loads.
+    fn go_on_idle(&mut self, now: u64) -> Result<Told, GoOnFault>
+        ensures { Idles (ended_run self.old) self.old now result self.new }
+    {
+        if let Some(ran) = self.ended_run() {
+            self.runs.drop_first();
+            return Ok(Told::Ran(ran));
+        }
         if self.is_lost() {
-            return Ok(match self.tasks.drop_first() {
-                Some(number) => Told::Unanswered(number),
-                None => Told::Idle,
-            });
+            return Ok(self.lapse());
+        }
+        if let Some(number) = self.lapse_left() {
+            return Ok(Told::Lapsed(number));
         }
         match self.load(now) {
             Ok(true) => Ok(Told::Busy),

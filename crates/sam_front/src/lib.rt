@@ -4,14 +4,17 @@
 mod fault;
 mod front;
 mod loader;
+mod running;
+mod runs;
 mod tasks;
 mod told;
 
-pub use fault::{BeginFault, WriteFault};
+pub use fault::{BeginFault, RunFault, WriteFault};
 pub use front::Front;
 pub use loader::{
     BREAK, FIRST_SLICE, LEAST_SLICE, Loader, MOST_HOLES, MOST_SLICE, Next, PAGE, PAUSE, REST,
     SLICE_TIME, Seen, Slice, Stretch,
 };
+pub use runs::{MOST_KEPT, MOST_LINE, MOST_PRINTED, MOST_RUNS, Ran, Run, RunState, Runs};
 pub use tasks::{MOST_TASKS, Task, Tasks};
 pub use told::{Order, Refused, Told};

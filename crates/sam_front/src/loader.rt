@@ -1,8 +1,8 @@
 //! Which stretch of which text is loaded next: what is on the screen at once, and the rest while nobody types, slice by slice. Places and
 //! lengths are in runes, times in milliseconds of a clock that never goes back.
 
-ghost use Rattle.std.specs.Prelude.{◌≡◌, ◌∷◌, ◌||◌, OnErr, OnOk, Some};
-ghost use Rattle.sam_front.specs.Loader.{acted, ended, first_slice, gaps_of, is_slice, is_view, later, least_trip, new_loader, next_at, next_seen, next_slice, not_before, refused, rest_time, size_by, stepped, stretch_of, without};
+ghost use Rattle.std.specs.Prelude.{max, ◌≡◌, ◌∷◌, ◌||◌, OnErr, OnOk, Some};
+ghost use Rattle.sam_front.specs.Loader.{acted, ended, first_slice, gaps_of, is_slice, is_view, later, least_trip, new_loader, next_at, next_seen, next_slice, not_before, page, refused, rest_time, size_by, stepped, stretch_of, without};
 
 use sam_overlay::Overlay;
 use sam_rasp::Rasp;
@@ -136,6 +136,20 @@ impl Loader {
         ensures { result ≡ self.now.slice }
     {
         self.slice
+    }
+
+    /// Returns how many runes of what somebody waits for are asked for at once.
+    pub fn at_once(&self) -> u32
+        ensures { result ≡ max self.now.size page }
+    {
+        self.size.max(PAGE)
+    }
+
+    /// Returns before which time nothing is to be loaded.
+    pub fn pauses_until(&self) -> u64
+        ensures { result ≡ self.now.pauses_until }
+    {
+        self.pauses_until
     }
 
     /// Notes what a window shows: it comes first from now on, in place of what was shown of the file before. The only error is out of
@@ -309,7 +323,7 @@ fn next_slice(list: &[Seen], size: u32, overlay: &Overlay) -> Next
 }
 
 /// Returns what is to be loaded at that time or later, or that it waits.
-fn not_before(next: Next, time: u64, now: u64) -> Next
+pub(crate) fn not_before(next: Next, time: u64, now: u64) -> Next
     ensures { result ≡ not_before time now next }
 {
     match next {

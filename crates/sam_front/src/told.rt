@@ -3,6 +3,7 @@
 ghost use Rattle.std.specs.Prelude.{◌≡◌};
 ghost use Rattle.sam_front.specs.Fronts.{kind_of};
 
+use crate::runs::Ran;
 use sam_note::NoteKind;
 use sam_overlay::OverlayStep;
 use sam_term::Refusal;
@@ -45,6 +46,10 @@ pub enum Told {
     Answered(u32),
     /// The session is over, and no answer comes to the task of this number.
     Unanswered(u32),
+    /// A command line has run, and all that is told of what it printed is loaded.
+    Ran(Ran),
+    /// The session is over, and the request of this number never acts; or it is that of a command line that ran, and no answer comes.
+    Lapsed(u64),
     /// Something moved that is not told, and more may: call again.
     Busy,
     /// Nothing moves until the host or the user does something, or the time comes.

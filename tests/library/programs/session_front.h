@@ -19,6 +19,7 @@ enum {
     LONG_EDIT = 600,
     MOST_TOGETHER = 4,
     MOST_REQUESTS = 1 << 14,
+    MOST_PRINTED = 1 << 16,
     MOST_TASKS = 1 << 10,
     KINDS = SAM_EVENT_PASTE_CMD + 1
 };
@@ -50,6 +51,7 @@ struct front {
         sam_event_kind kind; /* 0 of a load that the client makes by itself */
         uint16_t tag;
         size_t len;                     /* bytes of its text */
+        bool is_run;                    /* it types the newline of a command line that was not told */
     } requests[MOST_REQUESTS];          /* by their numbers */
     struct effect wanted[MOST_EFFECTS]; /* writes, each with the number of its task, and texts of closed files */
     uint64_t wanted_by[MOST_EFFECTS];   /* the numbers of the requests for these */
@@ -75,7 +77,8 @@ static unsigned long asked[KINDS], acted[KINDS];
 static struct meeting shared_writes = {"writes that wait already", 0}, splices_taken = {"splices", 0}, edits_told = {"edits told", 0},
                       notes_heard = {"messages heard", 0}, answered = {"tasks answered", 0}, unanswered = {"tasks of a session that is over", 0},
                       refused_tasks = {"tasks whose write is refused", 0}, own_loads = {"loads by itself", 0}, untold_edits = {"edits without memory", 0},
-                      splices_together = {"splices of many steps", 0}, edits_together = {"edits in one call", 0};
+                      splices_together = {"splices of many steps", 0}, edits_together = {"edits in one call", 0},
+                      lines_told = {"lines that have run", 0}, lapsed = {"requests that lapsed", 0};
 
 /* Whether all that changes a text is known. */
 static bool is_known(void)
@@ -124,6 +127,7 @@ static void note_own_loads(uint64_t number)
         front->request++;
         front->requests[front->request % MOST_REQUESTS].kind = 0;
         front->requests[front->request % MOST_REQUESTS].len = 0;
+        front->requests[front->request % MOST_REQUESTS].is_run = false;
     }
 }
 
@@ -139,6 +143,8 @@ static void hear_request(sam_client_event told, const sam_did *did)
     for (front->told++; front->told < did->request; front->told++)
         WANT(front->requests[front->told % MOST_REQUESTS].kind, 0);
     acted[front->requests[did->request % MOST_REQUESTS].kind] += told == SAM_CLIENT_STEPPED;
+    if (told != SAM_CLIENT_STEPPED && front->requests[did->request % MOST_REQUESTS].is_run)
+        front->requests[did->request % MOST_REQUESTS].is_run = false;
 }
 
 /* A task ends once: by its answer, by the refusal of its write, or because the session is over. */
@@ -178,8 +184,38 @@ static void hear_note(uint32_t task)
         is_answer(note, len, task);
 }
 
+/* A command line has run, and what it printed is loaded; or it was refused, or lapsed. That is told once. */
+static void end_line(sam_client_event told, const sam_did *did)
+{
+    static uint32_t runes[MOST_PRINTED];
+    uint32_t count = 0;
+    WANT(front->requests[did->request % MOST_REQUESTS].is_run, true);
+    if (planted != LINE_UNTOLD || !one_in(2))
+        front->requests[did->request % MOST_REQUESTS].is_run = false;
+    if (told != SAM_CLIENT_RAN)
+        return;
+    WANT(did->came <= MOST_PRINTED && did->request <= front->told, 1);
+    WANT(sam_client_read(&front->client, COMMAND_FILE, did->start, runes, did->came, &count), SAM_OK);
+    WANT(count == did->came || acted[SAM_EVENT_CUT_CMD] + acted[SAM_EVENT_PASTE_CMD] > 0, 1);
+    for (uint32_t i = 0; i < count; i++)
+        WANT(runes[i] != SAM_GAP, 1);
+    lines_told.count++;
+}
+
+/* Whether this is told of a request that was told before, as that its line has run. */
+static bool is_of_line(sam_client_event told, const sam_did *did)
+{
+    return told == SAM_CLIENT_RAN || (told == SAM_CLIENT_LAPSED && did->request <= front->told);
+}
+
 static void hear(sam_client_event told, const sam_did *did)
 {
+    WANT(told != SAM_CLIENT_LAPSED || front->is_over, 1);
+    lapsed.count += told == SAM_CLIENT_LAPSED;
+    if (is_of_line(told, did)) {
+        end_line(told, did);
+        return;
+    }
     if (told == SAM_CLIENT_NOTE || told == SAM_CLIENT_ANSWERED)
         hear_note(did->task);
     WANT(did->task != 0 || (told != SAM_CLIENT_ANSWERED && told != SAM_CLIENT_UNANSWERED), 1);
@@ -253,6 +289,13 @@ static void go_on(void)
         ;
 }
 
+/* Each command line was told. */
+static void no_line_is_open(void)
+{
+    for (size_t at = 0; at < MOST_REQUESTS; at++)
+        WANT(front->requests[at].is_run, false);
+}
+
 /* ---- Requests ---- */
 
 /* The request that was taken last is this one. */
@@ -262,6 +305,7 @@ static void note_request(const sam_event *event, size_t len)
     front->requests[at].kind = event->kind;
     front->requests[at].tag = event->tag;
     front->requests[at].len = len;
+    front->requests[at].is_run = false;
 }
 
 /* Asks for something. Returns whether it is a request of its own: a write may be one that waits. */

@@ -25,6 +25,7 @@ enum planted {
     RECORDS_SWAPPED, /* a crash swaps two records */
     EFFECT_SKIPPED,  /* an effect is said to be done that was not */
     REQUEST_UNTOLD,  /* the user's program doesn't hear of a request */
+    LINE_UNTOLD,     /* nor of a command line that has run */
     TASK_UNTOLD,     /* nor of the end of a task */
     WRITE_UNKNOWN,   /* a file is written that nobody asked for */
     MEMORY_KEPT,     /* some memory is never given back */

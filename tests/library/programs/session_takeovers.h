@@ -58,6 +58,8 @@ static void end_tasks(void)
     spare_memory(false);
     for (uint32_t number = 1; number <= front->task; number++)
         WANT(front->tasks[number].kind, 0);
+    WANT(front->told >= front->request, 1);
+    no_line_is_open();
 }
 
 /* The terminal of the session before connects, and is refused. */

@@ -4,7 +4,7 @@
 
 #include "session_tasks.h"
 
-enum { CROWD = 1000, TOO_LONG = SAM_MOST_RUNES + 1, TOO_LONG_SNARF = SAM_MOST_SNARFED_BYTES + 1, TOO_LONG_TYPED = SAM_MOST_IN_TYPE + 1 };
+enum { CROWD = 1000, MOST_ATTEMPTS = 4096, TOO_LONG = SAM_MOST_RUNES + 1, TOO_LONG_SNARF = SAM_MOST_SNARFED_BYTES + 1, TOO_LONG_TYPED = SAM_MOST_IN_TYPE + 1 };
 
 /* Lines of the command file, which leave each rune that the user types once; and what becomes of a text by them. */
 enum where { NOWHERE, EACH, AT_START, AT_END };
@@ -195,11 +195,53 @@ static void send_line(size_t number)
     lines_sent.count++;
 }
 
-/* Has a command line run on a file, typed or sent. Returns the line. */
+/* The client has taken these events as its newest requests. */
+static void take_requests(const sam_event *events, size_t count, const char *typed)
+{
+    for (size_t i = 0; i < count; i++) {
+        bool types = events[i].kind == SAM_EVENT_TYPE_CMD;
+        asked[events[i].kind]++;
+        if (is_known())
+            ask_local(&events[i], (const uint8_t *)typed, types ? strlen(typed) : 0);
+        front->request++;
+        note_request(&events[i], types ? strlen(typed) : 0);
+    }
+}
+
+/* Has a command line run by one call. Where memory is out, the first of its requests may have been taken. */
+static void run_as_one(uint16_t tag, const char *typed)
+{
+    const sam_event events[] = {{.kind = SAM_EVENT_WORK, .tag = tag}, {.kind = SAM_EVENT_TYPE_CMD}};
+    size_t before = requests_waiting(), taken[MOST_ATTEMPTS], tries = 0, all = 0;
+    uint64_t number = 0;
+    sam_status status;
+    while ((status = met(sam_client_run(&front->client, tag, (const uint8_t *)typed + 1, strlen(typed) - 2, &number))) != SAM_OK) {
+        WANT(status == SAM_NO_MEMORY || (status == SAM_WAITING && all == 0), 1);
+        WANT(tries < MOST_ATTEMPTS, 1);
+        taken[tries] = requests_waiting() - before;
+        all += taken[tries++];
+        if (status == SAM_WAITING)
+            go_on();
+        before = requests_waiting();
+    }
+    note_own_loads(number - 2 - all);
+    for (size_t i = 0; i < tries; i++)
+        take_requests(events, taken[i], typed);
+    take_requests(events, 2, typed);
+    WANT(front->request, number);
+    front->requests[number % MOST_REQUESTS].is_run = true;
+}
+
+/* Has a command line run on a file, by one call, typed or sent. Returns the line. */
 static const struct command_line *run_line(uint16_t tag)
 {
     size_t number = pick(COMMAND_LINES);
     char typed[32];
+    if (has_windows && is_open(COMMAND_FILE) && one_in(2)) {
+        snprintf(typed, sizeof typed, "\n%s", command_lines[number].line);
+        run_as_one(tag, typed);
+        return &command_lines[number];
+    }
     ask_for(SAM_EVENT_WORK, tag, 0, 0);
     if (front->copies[LINES_FILE].is_wanted && is_open(LINES_FILE) && shown_len(LINES_FILE) > 0 && pick(2)) {
         send_line(number);

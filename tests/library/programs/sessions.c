@@ -102,6 +102,7 @@ static void nothing_waits(void)
         WANT(front->told, front->request);
     for (uint32_t number = 1; number <= front->task; number++)
         WANT(front->tasks[number].kind, 0);
+    no_line_is_open();
 }
 
 /* Both sides have the same name of a file. */
@@ -573,7 +574,7 @@ static bool all_met(void)
                                    lost_takeovers,   joins,          marks,        writes,      failed_writes, closed,        made_files,
                                    lines_at_rest,    lines_any_time, lines_sent,   crowds,      exits,         shared_writes, splices_taken,
                                    splices_together, edits_together, edits_told,   unfinished,    tasks_begun,   shared_tasks,  answers,
-                                   answered,         unanswered,     refused_tasks, windows,      own_loads};
+                                   answered,         unanswered,     refused_tasks, windows,      own_loads,     lines_told,    lapsed};
     unsigned long missing = tell_met(rows, sizeof rows / sizeof rows[0], statuses, sizeof statuses / sizeof statuses[0]);
     for (int kind = SAM_EVENT_SELECT; kind < KINDS; kind++)
         if (acted[kind] == 0)

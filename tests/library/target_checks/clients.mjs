@@ -266,6 +266,23 @@ function checkTasks() {
   same(readNote(client.note).kind, NoteKind.ENDED);
 }
 
+/** A command line is told once: that it has run, and what it printed; or that it lapsed, where the session is over. */
+function checkRuns() {
+  const { client, far } = begun("one\ntwo\n");
+  const lines = ["2p", ",x/o/c/ö/", ",p"].map((line) => client.run(1, line));
+  const runs = ofKind("ran", settle(client, far)).map(({ did }) => did);
+  same(runs.map(({ request }) => request), lines);
+  same(runs.map(({ change: { start, came } }) => client.text(0, start, came)), ["two\n", "", "öne\ntwö\n"]);
+  throws("NotText", "NOT_TEXT", () => client.run(1, "1p\n2p"));
+  throws("NotText", "NOT_TEXT", () => client.run(1, "\ud800"));
+  throws("EditRefused", "REFUSAL_NOT_OPEN", () => client.run(9, "1p"));
+  throws("EditRefused", "REFUSAL_TEXT_TOO_LONG", () => client.run(1, " ".repeat(400_001)));
+  far.tell({ kind: NoteKind.ENDED });
+  settle(client, far);
+  const line = client.run(1, "1p");
+  same(ofKind("lapsed", settle(client, far)).map(({ did }) => did.request), [line]);
+}
+
 /** A task that is refused is not begun. */
 function checkRefusedTasks() {
   const { client } = begun("hello");
@@ -434,6 +451,6 @@ function checkClientsMemory() {
 
 export const CLIENT_CHECKS = [
   ...[checkClientsLine, checkRefusedPieces, checkTypedUnderALock, checkClientsReaders, checkSplicesAreTakenFirst],
-  ...[checkManyReplacements, checkManyEdits, checkRoomEndsWithinAStep, checkManyLoads, checkTasks, checkRefusedTasks, checkWindows],
+  ...[checkManyReplacements, checkManyEdits, checkRoomEndsWithinAStep, checkManyLoads, checkTasks, checkRuns, checkRefusedTasks, checkWindows],
   ...[checkClientsTakenBack, checkRefusedClient, checkClientsMemory],
 ];

@@ -183,9 +183,8 @@ def check_many(folder):
 # Has a command line of the session change the text of the current buffer, which the host has otherwise.
 CHANGE = """
 local file = require("sulgrevad").files[vim.api.nvim_get_current_buf()]
-local kinds = require("sulgrevad.library").C
-file.session:ask(kinds.SAM_EVENT_WORK, file.tag)
-file.session:ask(kinds.SAM_EVENT_TYPE_CMD, 0, 0, 0, "\\n,x/two/c/2/\\n")
+local line = ",x/two/c/2/"
+file.session:must("run", file.tag, line, #line, require("sulgrevad.library").count)
 file.session:go_on()
 """
 

@@ -40,6 +40,11 @@ def check_run(folder):
         neovim.command("messages clear")
         neovim.lua("vim.cmd 'SulgrevadRun 4p'; vim.cmd 'SulgrevadRun 2p'")
         neovim.wait_told("é" * 700 + "\nsulgrevad: b long")  # the first is loaded while the second comes
+        neovim.command("messages clear")
+        neovim.keys("gg")
+        neovim.lua("vim.cmd 'SulgrevadRun /c/'; vim.cmd 'SulgrevadRun 2p'")
+        neovim.wait_told("b long")
+        expect_equal(neovim.lua("return vim.api.nvim_win_get_cursor(0)"), [3, 0])  # the place of the first line, not of the second
 
 
 CURSORS = "return vim.tbl_map(vim.api.nvim_win_get_cursor, vim.api.nvim_list_wins())"

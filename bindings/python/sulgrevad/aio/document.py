@@ -76,12 +76,12 @@ class Document:
         return self._session._begin(partial(self._session._client.write, self.tag))
 
     def run(self, line: str) -> "asyncio.Future[str]":
-        """Runs a command line on the text as it is now. Returns a future, whose result is what the line printed, once all that it changed
-        is here: a line that is wrong prints `?` and why. docs/reference/COMMANDS.md has the lines. To cancel it takes nothing back. It
-        raises EditRefused (REFUSAL_TOO_LONG) if the line has no room behind what other lines have printed, and then nothing is run;
-        SessionOver and SessionLost. The call itself raises, in this order: SessionOver or SessionLost; Missing if the document is closed;
-        ValueError for a newline in the line, in which `\\n` stands for one; NotText; TooMany if 1,000 requests wait, of which a line is
-        two, and one more for each 512 runes."""
+        """Runs a command line on the text as it is now. Returns a future, whose result is what the line printed, at most 65,536 runes of
+        it, once all that it changed is here: a line that is wrong prints `?` and why. docs/reference/COMMANDS.md has the lines. To cancel
+        it takes nothing back. It raises EditRefused (REFUSAL_TEXT_TOO_LONG) for a line of more than 400,000 runes, (REFUSAL_TOO_LONG) if
+        the line has no room behind what other lines have printed: then nothing is run; SessionOver and SessionLost. The call itself raises,
+        in this order: SessionOver or SessionLost; Missing if the document is closed; ValueError for a newline in the line, in which `\\n`
+        stands for one; NotText; TooMany if 1,000 requests wait, of which a line is five at most, and one more for each 512 runes."""
         self._check()
         if "\n" in line:
             raise ValueError("a command line has no newline inside")

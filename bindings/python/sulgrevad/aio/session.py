@@ -9,16 +9,20 @@ from typing import Any, Awaitable, Callable, Deque, Dict, List, Optional, Set, T
 
 from sulgrevad.aio.document import Document
 from sulgrevad.aio.ends import End, RequestRefused, SessionLost, SessionOver, now, seconds, told_of, within
-from sulgrevad.aio.requests import MOST_REQUESTS, MOST_RUNES, Request, Requests, Run, fail, succeed
+from sulgrevad.aio.requests import MOST_REQUESTS, MOST_RUNES, Request, Requests, fail, succeed
 from sulgrevad.carrier import ID_BYTES
 from sulgrevad.client import Client, ClientEvent, ClientEventKind
 from sulgrevad.line import LineDetails, Tick
 from sulgrevad.note import Note, NoteKind, read_note
 from sulgrevad.overlay import EventKind, Splice, SpliceKind
+from sulgrevad.results import Change
 from sulgrevad.status import NoMemory, NoteFault, SamError, Status, TooMany
 
 VERSION = 2  # of the protocol
 OPENING = 30.0  # seconds that a connection may take
+COMMAND_FILE = 0  # its tag
+MOST_TYPED = 512  # runes of a command line that are one request
+REQUESTS_OF_A_LINE = 5  # at most, and one more for each 512 runes
 NOT_LOADED = "\ufffd"  # stands for a rune that is not loaded
 
 Opener = Callable[[], Awaitable[Tuple[asyncio.StreamReader, asyncio.StreamWriter]]]
@@ -45,7 +49,6 @@ class Session(End):
         self._documents: Dict[int, Document] = {}
         self._joins: "Dict[bytes, asyncio.Future[Note]]" = {}  # answers to come, by the paths that were asked for
         self._requests = Requests()
-        self._runs = 0  # command lines that are under way
         self._waits: List[_Wait] = []
         self._futures: "Set[asyncio.Future[Any]]" = set()  # of all that wait
         self._changes: Deque[Callable[[], object]] = deque()  # that the program was not told of
@@ -53,7 +56,7 @@ class Session(End):
         self._is_closing = False
         self._why: Optional[BaseException] = None  # the session is over
         self._woken = asyncio.Event()
-        self._requests.add(self._offer(), Request(partial(self._client.ask, EventKind.OPEN_CMD)))
+        self._requests.add(self._offer())
         self._keeper = asyncio.get_running_loop().create_task(self._keep())
         self._carrying: Optional["asyncio.Task[None]"] = None
 
@@ -108,7 +111,7 @@ class Session(End):
         try:
             if self._is_over:
                 return
-            await self._until(lambda: len(self._requests) < MOST_REQUESTS)
+            await self._until(lambda: len(self._requests) < MOST_REQUESTS and not self._requests.has_runs)
             self._is_closing = True
             self._requests.add(Request(partial(self._client.ask, EventKind.EXIT)))
             self._go_on()
@@ -207,17 +210,17 @@ class Session(End):
         self._go_on()
 
     def _run(self, tag: int, line: str) -> "asyncio.Future[str]":
-        run = Run(self._client, self._future())
+        printed = self._future()
 
-        def finish() -> None:
-            self._runs -= 1
-            run.finish()
+        def ran(change: Change) -> None:
+            """What it has put in a text is to be here, too: it may be more than came with it."""
+            answer = partial(succeed, printed, self._client.text(COMMAND_FILE, change.start, change.came))
+            self._waits.append((lambda: all(self._client.first_gap(tag) is None for tag in self._documents), answer))
 
-        self._ask(run.printed, *run.requests(tag, line, self._runs == 0))
-        self._runs += 1
-        self._waits.append((lambda: run.is_loaded and all(self._client.first_gap(tag) is None for tag in self._documents), finish))
+        run, count = partial(self._client.run, tag, line), REQUESTS_OF_A_LINE + len(line) // MOST_TYPED
+        self._ask(printed, Request(run, refused=partial(fail, printed), ran=ran, count=count))
         self._go_on()
-        return run.printed
+        return printed
 
     def _offer(self) -> Request:
         """Returns the request that has the host tell the names of its files."""
@@ -282,6 +285,8 @@ class Session(End):
             self._answer(self._requests.answered(told.did.task), read_note(self._client.note))
         elif told.kind in (ClientEventKind.STEPPED, ClientEventKind.REFUSED) and told.did:
             self._requests.take(told.did)
+        elif told.kind == ClientEventKind.RAN and told.did:
+            self._requests.meet_run(told.did)
         for wait in [*self._waits]:
             holds, act = wait
             if holds():

@@ -37,6 +37,11 @@ pub enum ClientEvent {
     Answered(u32),
     /// The session is over, and no answer comes to the task of this number.
     Unanswered(u32),
+    /// The command line of this request has run. What it printed, so many runes, stands in the command file from that place on, and is
+    /// loaded: [`Client::text`] of tag 0 returns it.
+    Ran { request: u64, place: u32, count: u32 },
+    /// The session is over, and the request of this number never acts, or its command line has no answer.
+    Lapsed(u64),
 }
 
 impl ClientEvent {
@@ -55,6 +60,8 @@ impl ClientEvent {
             sys::SAM_CLIENT_NOTE => ClientEvent::Note,
             sys::SAM_CLIENT_ANSWERED => ClientEvent::Answered(did.task),
             sys::SAM_CLIENT_UNANSWERED => ClientEvent::Unanswered(did.task),
+            sys::SAM_CLIENT_RAN => ClientEvent::Ran { request: did.request, place: did.start, count: did.came },
+            sys::SAM_CLIENT_LAPSED => ClientEvent::Lapsed(did.request),
             _ => ClientEvent::Idle,
         }
     }
@@ -284,8 +291,8 @@ impl Client {
     /// Asks for what is no edit. It stands in one order with the edits: it acts as the client goes on, once all edits before it are put,
     /// and finds the text that is shown now, with the host's changes since. A place that it names moves with that text: what the host puts
     /// in at the place itself stands behind it, and a range of which all goes is empty there; a place past the end of the text stays.
-    /// Returns the number of the request, by which `next_event` tells once that it acted or was refused; a write that would find the same
-    /// text as one that waits is that one, and has its number. Errors, in this order, and the client is then as it was: `NoMemory`, if it
+    /// Returns the number of the request, by which `next_event` tells once that it acted, was refused, or lapsed where the session is over;
+    /// a write that would find the same text as one that waits is that one, and has its number. Errors, in this order, and the client is then as it was: `NoMemory`, if it
     /// brings a text; `Waiting` while an edit was put that has not acted: go on first; `TooMany` if 1,000 requests wait; `CountFull`;
     /// `NoMemory`.
     pub fn ask(&mut self, event: Event<'_>) -> Result<u64, Error> {
@@ -323,6 +330,20 @@ impl Client {
         let mut task = 0;
         done(unsafe { sys::sam_client_write(self.at(), tag, &mut task) })?;
         Ok(task)
+    }
+
+    /// Has the host run a command line on an open file, from the file's dot on, as it is shown now: behind all that was asked for before.
+    /// Returns the number of the request that types its newline. `next_event` tells once that the line has run, and where in the command
+    /// file stands what it printed: at most 65,536 runes of that. Or it tells by that number that the line was refused, or lapsed. The
+    /// command file is opened for it, and emptied at 100,000 runes. Errors, in this order, and the client is then as it was: `NoMemory`;
+    /// `NotText` if the line has a newline; `Edit(NotOpen)` if the file is not open, is the command file, or the user has left;
+    /// `Edit(TextTooLong)` if the line has more than 400,000 runes; `TooMany` if 1,000 lines are open, or 1,000 requests would wait: it
+    /// has one for each 512 runes, and three more. Or as `ask`, in its order: the line doesn't run then, though some of its runes may come
+    /// to stand in the command file.
+    pub fn run(&mut self, tag: u16, line: &str) -> Result<u64, Error> {
+        let mut request = 0;
+        done(unsafe { sys::sam_client_run(self.at(), tag, line.as_ptr(), line.len(), &mut request) })?;
+        Ok(request)
     }
 
     /// Notes what a window shows of a file, from the place `start` to the place `end`, in the place of what it showed before. While nothing

@@ -17,7 +17,9 @@ struct Session {
     splices: Vec<Splice>,
     notes: Vec<Vec<u8>>,
     refused: Vec<(Option<u64>, Result<Refusal, u32>)>,
-    ended: Vec<ClientEvent>, // tasks
+    ended: Vec<ClientEvent>,     // tasks
+    lines: Vec<(u64, u32, u32)>, // that have run
+    lapsed: Vec<u64>,
 }
 
 impl Session {
@@ -39,6 +41,8 @@ impl Session {
             notes: Vec::new(),
             refused: Vec::new(),
             ended: Vec::new(),
+            lines: Vec::new(),
+            lapsed: Vec::new(),
         };
         session.connect();
         for event in [
@@ -80,6 +84,8 @@ impl Session {
                 } => self.refused.push((request, why)),
                 told @ (ClientEvent::Answered(_) | ClientEvent::Unanswered(_) | ClientEvent::Refused { .. }) => self.ended.push(told),
                 ClientEvent::Note => self.notes.push(self.client.note()),
+                ClientEvent::Ran { request, place, count } => self.lines.push((request, place, count)),
+                ClientEvent::Lapsed(request) => self.lapsed.push(request),
                 _ => self.splices.extend(self.client.splices()),
             }
         }
@@ -361,6 +367,32 @@ fn each_task_ends_once() {
         [ClientEvent::Answered(3), ClientEvent::Answered(1), ClientEvent::Unanswered(2)]
     );
     assert_eq!(session.notes.len(), 2);
+}
+
+#[test]
+fn a_command_line_is_told_once() {
+    let (mut session, file) = Session::new("one\ntwo\n");
+    let client = &mut session.client;
+    let lines = ["2p", ",x/o/c/ö/", ",p"].map(|line| client.run(file, line).unwrap());
+    assert_eq!(client.run(file, "1p\n2p"), Err(Error::NotText));
+    assert_eq!(client.run(9, "1p"), Err(Error::Edit(Refusal::NotOpen)));
+    assert_eq!(client.run(file, &" ".repeat(400_001)), Err(Error::Edit(Refusal::TextTooLong)));
+    session.settle();
+    let printed: Vec<_> = session
+        .lines
+        .iter()
+        .map(|&(request, place, count)| {
+            let text = session.client.text(0, place).unwrap_or_default();
+            (request, text.chars().take(count as usize).collect::<String>())
+        })
+        .collect();
+    let wanted = ["two\n", "", "öne\ntwö\n"].map(String::from);
+    assert_eq!(printed, lines.into_iter().zip(wanted).collect::<Vec<_>>());
+    session.link.put_note(&write_note(&Note::new(NoteKind::Ended)).unwrap()).unwrap();
+    session.settle();
+    let line = session.client.run(file, "1p").unwrap();
+    session.settle();
+    assert_eq!(session.lapsed, [line]);
 }
 
 #[test]

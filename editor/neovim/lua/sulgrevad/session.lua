@@ -13,7 +13,7 @@ local M, Session = {}, {}
 Session.__index = Session
 
 local VERSION, MESSAGES = 2, 1 -- of the core protocol, and of the session's messages
-local MOST_RUNES, MOST_TYPED = library.number.SAM_MOST_RUNES, library.number.SAM_MOST_IN_TYPE -- of a text, and of what is typed at once
+local MOST_RUNES = library.number.SAM_MOST_RUNES -- of a text
 local TICK = 500 -- milliseconds after which the clock is looked at again
 local SECONDS_UNKEPT = 10 -- of a lost line, until what the host may not have is kept here again
 local SECONDS_TO_LEAVE = 10 -- for which the end of Neovim waits for a host that answers
@@ -30,7 +30,7 @@ end
 -- file with a buffer, of the session and a path, where another program wants one shown.
 function M.begin(label, command, takes, new_file)
   local session = setmetatable({
-    label = label, command = command, new_file = new_file, say = M.say, files = {}, hidden = {}, copies = {}, kept_at = 0, prints = {},
+    label = label, command = command, new_file = new_file, say = M.say, files = {}, hidden = {}, copies = {}, kept_at = 0,
     answers = {}, -- by the numbers of tasks: what is called with the host's answer, or with nil where none comes
     runs = {}, -- by the numbers of requests: command lines
     waiting = {}, -- what is done once the client rests and a condition holds
@@ -38,7 +38,6 @@ function M.begin(label, command, takes, new_file)
   session.line = lines.new(session, command, takes)
   session.client = session.line.client
   session:ask(C.SAM_EVENT_OFFER_VERSION)
-  session:ask(C.SAM_EVENT_OPEN_CMD)
   session.timer = uv.new_timer()
   session.timer:start(TICK, TICK, vim.schedule_wrap(function() session:tick() end))
   session:go_on()
@@ -112,6 +111,8 @@ function Session:next_event()
   self.is_idle = told == C.SAM_CLIENT_IDLE
   if told == C.SAM_CLIENT_STEPPED then
     self:take_step(did)
+  elseif told == C.SAM_CLIENT_RAN then
+    self:end_run(tonumber(did.request), did.start, did.came)
   elseif told == C.SAM_CLIENT_REFUSED then
     self.runs[tonumber(did.request)] = nil
     M.say(library.words(did.why), "ErrorMsg")
@@ -144,21 +145,17 @@ function Session:advance()
   return told ~= nil -- else it goes on with the next tick
 end
 
--- Takes a step with its splices. Those of the command file are what a line prints, or the line itself.
+-- Takes a step with its splices. The dot of a line's file is the line's own only until the next one begins.
 function Session:take_step(did)
   local splice, request = library.splice, tonumber(did.request)
   while self:try("next_splice", splice) == 0 do
     local file = self.files[splice.tag]
     if file and splice.kind ~= C.SAM_SPLICE_EMPTIED then file:moved() end
-    if splice.tag == 0 and splice.kind == C.SAM_SPLICE_CAME and did.step == C.SAM_STEP_RECEIVED then
-      self:print(splice.place, splice.count)
-    end
   end
-  if self.runs[request] then
-    self.running, self.runs[request] = self.runs[request], nil
-  elseif did.step == C.SAM_STEP_RECEIVED and did.kind == C.SAM_KIND_HUNLOCK then
+  self.running = self.runs[request] or self.running
+  if did.step == C.SAM_STEP_RECEIVED and did.kind == C.SAM_KIND_HUNLOCK then
     for _, file in pairs(self.files) do file:settle() end -- the next line's changes are a step of undo of their own
-    if self.running then self:end_run(self.running) end
+    if self.running then self.running.dot = self:file_state(self.running.file.tag).dot_start end
     self.running = nil
   end
 end
@@ -398,41 +395,27 @@ end
 function Session:run(file, line, from, to)
   file:tell()
   if file.refusal then error(("sulgrevad: not run: %s: %s"):format(file.path, file.refusal), 0) end
-  local start, request = file:place_of(unpack(from)), nil
+  local start = file:place_of(unpack(from))
   self:ask(C.SAM_EVENT_SELECT, file.tag, start, to and file:place_of(unpack(to)) or start)
-  self:ask(C.SAM_EVENT_WORK, file.tag)
-  local typed = "\n" .. line .. "\n" -- the first newline ends what may stand there, and the last one runs the line
-  while typed ~= "" do
-    local count = text.size(typed, MOST_TYPED)
-    request = self:ask(C.SAM_EVENT_TYPE_CMD, 0, 0, 0, typed:sub(1, count))
-    typed = typed:sub(count + 1)
-  end
-  self.runs[request] = { file = file, window = api.nvim_get_current_win(), tick = api.nvim_buf_get_changedtick(file.buf) }
+  self:must("run", file.tag, line, #line, library.count)
+  self.runs[tonumber(library.count[0])] = { file = file, window = api.nvim_get_current_win(), tick = api.nvim_buf_get_changedtick(file.buf) }
   self:go_on()
 end
 
--- A line is answered. If it was an address alone, its window goes there.
-function Session:end_run(run)
+-- A line is answered: so many runes that it printed stand at a place of the command file. If it was an address alone, its window goes
+-- there.
+function Session:end_run(request, place, count)
+  local run = self.runs[request]
+  self.runs[request] = nil
+  if count > 0 then
+    local printed = self:shown(0, place)
+    return M.say((printed:sub(1, text.size(printed, count)):gsub("\n$", "")))
+  end
+  if not run or not run.dot then return end
   local file = run.file
-  if run.has_printed or not file.is_filled or run.tick ~= api.nvim_buf_get_changedtick(file.buf) then return end
-  local row, column = file:spot(text.size(file.same, self:file_state(file.tag).dot_start))
+  if not file.is_filled or run.tick ~= api.nvim_buf_get_changedtick(file.buf) then return end
+  local row, column = file:spot(text.size(file.same, run.dot))
   file:go_to(row, column, run.window)
-end
-
--- Shows what lines have printed, in order, once it is loaded.
-function Session:print(place, count)
-  if self.running then self.running.has_printed = true end
-  table.insert(self.prints, { place = place, count = count })
-  if #self.prints > 1 then return end
-  self:must("see", 0, place, MOST_RUNES) -- up to the end, so with all that comes until it is shown
-  self:once(function() return self:try("first_gap", 0, place, library.place) ~= 0 end, function()
-    for _, one in ipairs(self.prints) do
-      local printed = self:shown(0, one.place)
-      M.say((printed:sub(1, text.size(printed, one.count)):gsub("\n$", "")))
-    end
-    self.prints = {}
-    self:must("forget", 0)
-  end)
 end
 
 --## What the host may not have
