@@ -188,6 +188,22 @@ static void lapses(void)
     free_both();
 }
 
+/* What a line printed doesn't come any more once the user has left: the line lapses. */
+static void leaves(void)
+{
+    open_both("a", true);
+    is_long = true;
+    memset(room, 'b', MOST_WAITING);
+    memcpy(room, ",c/", 3);
+    room[MOST_WAITING] = '/';
+    ran(run(1, room, MOST_WAITING + 1, SAM_OK), "");
+    uint64_t request = run_words(",p");
+    WANT(ask_for(SAM_EVENT_EXIT, 0, 0, 0), SAM_OK);
+    WANT(until_told(SAM_CLIENT_LAPSED).request, request);
+    is_long = false;
+    free_both();
+}
+
 /* Each refusal, in their order: the line is not asked for. */
 static void refusals(void)
 {
@@ -232,6 +248,7 @@ int main(void)
     printed_much();
     over_a_break();
     lapses();
+    leaves();
     refusals();
     WANT((unsigned long)blocks, 0);
     puts("each command line is told once, with what it printed");
