@@ -5,7 +5,7 @@
  */
 #include "client_session.h"
 
-enum { LONG_LINE = 400000, MOST_PRINTED = 65536, MOST_KEPT = 100000, MOST_WAITING = 1000, PIECE = 512, LINES_OF_PIECES = 2 };
+enum { LONG_LINE = 400000, MOST_PRINTED = 65536, MOST_KEPT = 100000, MOST_WAITING = 1000, TOO_MUCH_AT_ONCE = 1000, PIECE = 512, LINES_OF_PIECES = 2 };
 
 static char room[SAM_MOST_RUNES + 1];
 static bool is_long; /* the file has more runes than the copy may have */
@@ -116,16 +116,22 @@ static void long_lines(void)
     free_both();
 }
 
-/* More than is told of what a line printed isn't loaded; and the next line empties a command file that has so much. */
-static void printed_much(void)
+/* A file of so many runes less three, all of which a line prints. Returns the line's number. */
+static uint64_t print_much(size_t len)
 {
     open_both("a", true);
     is_long = true;
-    memset(room, 'b', MOST_KEPT);
+    memset(room, 'b', len);
     memcpy(room, ",c/", 3);
-    room[MOST_KEPT] = '/';
-    ran(run(1, room, MOST_KEPT + 1, SAM_OK), "");
-    uint64_t request = run_words(",p");
+    room[len] = '/';
+    ran(run(1, room, len + 1, SAM_OK), "");
+    return run_words(",p");
+}
+
+/* More than is told of what a line printed isn't loaded; and the next line empties a command file that has so much. */
+static void printed_much(void)
+{
+    uint64_t request = print_much(MOST_KEPT);
     sam_did did = until_told(SAM_CLIENT_RAN);
     WANT(did.request, request);
     WANT(did.came, MOST_PRINTED);
@@ -191,13 +197,7 @@ static void lapses(void)
 /* What a line printed doesn't come any more once the user has left: the line lapses. */
 static void leaves(void)
 {
-    open_both("a", true);
-    is_long = true;
-    memset(room, 'b', MOST_WAITING);
-    memcpy(room, ",c/", 3);
-    room[MOST_WAITING] = '/';
-    ran(run(1, room, MOST_WAITING + 1, SAM_OK), "");
-    uint64_t request = run_words(",p");
+    uint64_t request = print_much(TOO_MUCH_AT_ONCE);
     WANT(ask_for(SAM_EVENT_EXIT, 0, 0, 0), SAM_OK);
     WANT(until_told(SAM_CLIENT_LAPSED).request, request);
     is_long = false;
