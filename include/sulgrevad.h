@@ -1704,14 +1704,14 @@ SAM_MUST_USE sam_status sam_client_write(sam_client *client, uint16_t tag, uint3
  * printed: at most 65,536 runes of that, all loaded, which sam_client_text reads before the client goes on. Or SAM_CLIENT_REFUSED or
  * SAM_CLIENT_LAPSED tells that it doesn't run, or that its answer doesn't come. Its other requests have numbers, too, which nobody was
  * handed. What it printed is loaded once no request waits, so a request to leave that stands behind the line may come first. Where the
- * command file has 100,000 runes, and no other line is open, the line replaces them. Don't run a line on a file for whose end
- * SAM_EVENT_CLOSE waits: the line would find another work file, or none. Refused, in this order, and client and number are then as they
- * were: SAM_NOT_TEXT if the line is not UTF-8; SAM_NO_MEMORY if there is no memory for its runes; SAM_NOT_TEXT if it has a newline;
- * SAM_REFUSAL_NOT_OPEN if the file is not open, is the command file, or the user has left (SAM_EVENT_EXIT, or the line `q`);
- * SAM_REFUSAL_TEXT_TOO_LONG if it has more than 400,000 runes; SAM_TOO_MANY if 1,000 lines are open, or if more than 1,000 requests would
- * wait, counting three of the line, and one for each 512 runes that it types. Refused, too, as sam_client_ask refuses one of these
- * requests, in its order (SAM_COUNT_FULL, SAM_WAITING, SAM_COUNT_FULL, SAM_NO_MEMORY): the number is then as it was, and the line doesn't
- * run, though its file may become the work file, and some of its runes may come to stand in the command file. */
+ * command file has 100,000 runes, and no other line is open, the line replaces them. Refused, in this order, and client and number are then
+ * as they were: SAM_NOT_TEXT if the line is not UTF-8; SAM_NO_MEMORY if there is no memory for its runes; SAM_NOT_TEXT if it has a newline;
+ * SAM_REFUSAL_NOT_OPEN if the file is not open, a SAM_EVENT_CLOSE of it waits, it is the command file, or the user has left
+ * (SAM_EVENT_EXIT, or the line `q`); SAM_REFUSAL_TEXT_TOO_LONG if it has more than 400,000 runes; SAM_TOO_MANY if 1,000 lines are open, or
+ * if more than 1,000 requests would wait, counting three of the line, and one for each 512 runes that it types. Refused, too, as
+ * sam_client_ask refuses one of these requests, in its order (SAM_COUNT_FULL, SAM_WAITING, SAM_COUNT_FULL, SAM_NO_MEMORY): the number is
+ * then as it was, and the line doesn't run, though its file may become the work file, and some of its runes may come to stand in the
+ * command file. */
 SAM_MUST_USE sam_status sam_client_run(sam_client *client, uint16_t tag, const uint8_t *line, size_t len, uint64_t *request);
 
 /* Notes what a window shows of a file, from the place `start` to the place `end`, in the place of what it showed before. While nothing else

@@ -983,10 +983,10 @@ export declare class Client extends Clocked {
    * that is told of what it printed: at most 65,536 runes, from `did.change.start` of the command file on, which has tag 0. Or it tells by
    * that number that the line was refused, or lapsed. The command file is opened for it, and emptied at 100,000 runes. Throws, in this
    * order, and the client is then as it was: NotText if the line is not UTF-8; NoMemory; NotText if it has a newline; EditRefused
-   * (REFUSAL_NOT_OPEN) if the file is not open, is the command file, or the user has left, (REFUSAL_TEXT_TOO_LONG) if the line has more
-   * than 400,000 runes; a SamError with the code TOO_MANY if 1,000 lines are open, or 1,000 requests would wait: it has one for each 512
-   * runes, and three more. Or as `ask` does, in its order: the line doesn't run then, though some of its runes may come to stand in the
-   * command file. */
+   * (REFUSAL_NOT_OPEN) if the file is not open, a close of it waits, it is the command file, or the user has left, (REFUSAL_TEXT_TOO_LONG)
+   * if the line has more than 400,000 runes; a SamError with the code TOO_MANY if 1,000 lines are open, or 1,000 requests would wait: it
+   * has one for each 512 runes, and three more. Or as `ask` does, in its order: the line doesn't run then, though some of its runes may
+   * come to stand in the command file. */
   run(tag: number, line: Text): number;
   /** Notes what a window shows of a file, from the place `start` to the place `end`, in the place of what it showed before. While nothing
    * else waits, the client loads that by itself, then what is behind it and the rest of the file, in slices, but these only once nobody has

@@ -210,14 +210,15 @@ class Client(Clocked, Shown, Stopping):
         return self._number("write", c_uint32, tag)
 
     def run(self, tag: int, line: Text) -> int:
-        """Has the host run a command line on an open file, from the file's dot on, as it is shown now: behind all that was asked for before.
-        Returns the number of the request that types its newline. `next_event` tells once that the line has run (RAN), and then all is
-        loaded that is told of what it printed: at most 65,536 runes, from `did.change.start` of the command file on, which has tag 0. Or it
-        tells by that number that the line was refused, or lapsed. The command file is opened for it, and emptied at 100,000 runes. Raises,
-        in this order, and the client is then as it was: NotText if the line is not UTF-8; NoMemory; NotText if it has a newline; EditRefused
-        (REFUSAL_NOT_OPEN) if the file is not open, is the command file, or the user has left, (REFUSAL_TEXT_TOO_LONG) if the line has more
-        than 400,000 runes; TooMany if 1,000 lines are open, or 1,000 requests would wait: it has one for each 512 runes, and three more. Or
-        as `ask` does, in its order: the line doesn't run then, though some of its runes may come to stand in the command file."""
+        """Has the host run a command line on an open file, from the file's dot on, as it is shown now: behind all that was asked for
+        before. Returns the number of the request that types its newline. `next_event` tells once that the line has run (RAN), and then all
+        is loaded that is told of what it printed: at most 65,536 runes, from `did.change.start` of the command file on, which has tag 0. Or
+        it tells by that number that the line was refused, or lapsed. The command file is opened for it, and emptied at 100,000 runes.
+        Raises, in this order, and the client is then as it was: NotText if the line is not UTF-8; NoMemory; NotText if it has a newline;
+        EditRefused (REFUSAL_NOT_OPEN) if the file is not open, a close of it waits, it is the command file, or the user has left,
+        (REFUSAL_TEXT_TOO_LONG) if the line has more than 400,000 runes; TooMany if 1,000 lines are open, or 1,000 requests would wait: it
+        has one for each 512 runes, and three more. Or as `ask` does, in its order: the line doesn't run then, though some of its runes may
+        come to stand in the command file."""
         line = bytes_of(line)
         return self._number("run", ctypes.c_uint64, tag, line, len(line))
 

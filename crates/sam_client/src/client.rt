@@ -6,6 +6,7 @@ ghost use Rattle.sam_line.specs.Clock as clocks;
 ghost use Rattle.sam_line.specs.Line.{is_due};
 ghost use Rattle.sam_overlay.specs.Calls.{shown_at};
 ghost use Rattle.sam_overlay.specs.Overlays.{is_request};
+ghost use Rattle.sam_overlay.specs.Requests.{is_closing};
 ghost use Rattle.sam_term.specs.Term.{rasp_at};
 ghost use Rattle.sam_client.specs.Clients.{Does, new_client};
 ghost use Rattle.sam_client.specs.Delivery.{HasAll, HasSent, is_unsaved};
@@ -251,6 +252,13 @@ impl Client {
         ensures { result ≡ length self.now.ordered.queue }
     {
         self.ordered.waiting()
+    }
+
+    /// Returns whether a request waits that closes a file.
+    pub fn is_closing(&self, tag: u16) -> bool
+        ensures { result ≡ is_closing self.now.ordered.queue tag }
+    {
+        self.ordered.is_closing(tag)
     }
 
     /// Lends the terminal's end with the edits that wait, to be read.

@@ -5,6 +5,7 @@ use Rattle.sam_term.specs.Term as terms
 use Rattle.sam_term.specs.declared.event.UserEvent.{UserEvent}
 use Rattle.sam_term.specs.declared.event.UserEvent.TheVariants as event
 use Rattle.sam_overlay.specs.Ordered.{most_waiting_requests}
+use Rattle.sam_overlay.specs.Requests.{is_closing}
 use Rattle.sam_overlay.specs.declared.fault.AskFault.{AskFault}
 use Rattle.sam_overlay.specs.declared.fault.AskFault.TheVariants as ask
 use Rattle.sam_front.specs.Fronts.{Asks, can_be_written, command_len, requests_of, term_of, with_runs}
@@ -18,12 +19,16 @@ use Rattle.sam_front.specs.declared.front.Front.{Front}
 abbrev pub is_open : Front → ℕ → Bool
 is_open f tag = terms.is_open (term_of f) tag
 
+-- the file is open, and no request waits that closes it: the line would find another file
+abbrev pub can_be_run : Front → ℕ → Bool
+can_be_run f tag = can_be_written f tag && not (is_closing f.client.ordered.queue tag)
+
 -- why the line is not asked for, in the order of the tests. It has a request for each piece that is typed, and three others at most
 abbrev pub run_fault : Front → ℕ → List ℕ → Option RunFault
 run_fault f tag line =
     first_of_checks (
     (has_newline line, unrun.NotLine)
-    ∷ (not (can_be_written f tag), unrun.NotOpen)
+    ∷ (not (can_be_run f tag), unrun.NotOpen)
     ∷ (nat_lt most_line (length line), unrun.TooLong)
     ∷ (
       nat_le most_runs (length f.runs) || nat_lt (most_waiting_requests - (behind_of (length line + 2) + 4)) (requests_of f),

@@ -73,7 +73,7 @@ pub enum RunFault {
     /// It has a newline inside.
     #[error("a newline in a command line")]
     NotLine,
-    /// The file is not open, it is the command file, or the session is over.
+    /// The file is not open, a request waits that closes it, it is the command file, or the session is over.
     #[error("the file is not open")]
     NotOpen,
     /// It has more than `MOST_LINE` runes.

@@ -2,7 +2,7 @@
 
 ghost use Rattle.std.specs.Prelude.{◌≡◌, ◌≤◌, ◌+◌, IfOk, IsTrue, None, length};
 ghost use Rattle.sam_overlay.specs.Overlays.{is_request};
-ghost use Rattle.sam_front.specs.Running.{AsksIf, AsksLine, RunsFound, RunsLine, TypesIn, TypesOne, is_open, run_fault, to_empty};
+ghost use Rattle.sam_front.specs.Running.{AsksIf, AsksLine, RunsFound, RunsLine, TypesIn, TypesOne, can_be_run, is_open, run_fault, to_empty};
 ghost use Rattle.sam_front.specs.Runs.{behind_of, most_line, typed_line};
 
 use crate::fault::RunFault;
@@ -30,6 +30,13 @@ fn typed_line(alloc: Global, line: &[char]) -> Result<Vec<char>, AllocError>
 }
 
 impl Front {
+    /// Returns whether a line may be asked for on a file: the terminal would write it, and no request waits that closes it.
+    fn can_be_run(&self, tag: u16) -> bool
+        ensures { result ≡ can_be_run self.now tag }
+    {
+        self.can_be_written(tag) && !self.client.is_closing(tag)
+    }
+
     /// Returns why a line is not asked for, if it is known before memory is taken.
     fn run_fault(&self, tag: u16, line: &[char]) -> Option<RunFault>
         ensures fault { result ≡ run_fault self.now tag line.now }
@@ -38,7 +45,7 @@ impl Front {
         if has_newline(line) {
             return Some(RunFault::NotLine);
         }
-        if !self.can_be_written(tag) {
+        if !self.can_be_run(tag) {
             return Some(RunFault::NotOpen);
         }
         if line.len() > MOST_LINE {
@@ -161,9 +168,9 @@ impl Front {
     /// request that types its newline. `go_on` tells once that it has run, and what it printed; or that the request was refused or lapsed.
     /// The command file is opened for it, and emptied if it has `MOST_KEPT` runes and no other line is open.
     ///
-    /// Errors, in this order: `NotLine` if the line has a newline; `NotOpen` if the terminal would take no write of the file; `TooLong` if
-    /// it has more than `MOST_LINE` runes; `Ask(TooMany)` if `MOST_RUNS` lines are open, or if its requests would be too many; after these
-    /// all is as before. `Ask(OutOfMemory)` for the line itself; and what `Front::ask` answers for one of its requests, after which the
+    /// Errors, in this order: `NotLine` if the line has a newline; `NotOpen` if the terminal would take no write of the file, or if a request
+    /// waits that closes it, since the line would find another file; `TooLong` if it has more than `MOST_LINE` runes; `Ask(TooMany)` if
+    /// `MOST_RUNS` lines are open, or if its requests would be too many; after these all is as before. `Ask(OutOfMemory)` for the line itself; and what `Front::ask` answers for one of its requests, after which the
     /// line doesn't run, though the first of them may act.
     pub fn run(&mut self, tag: u16, line: &[char], alloc: Global) -> Result<u64, RunFault>
         ensures { RunsLine self.old tag line.now result self.new }

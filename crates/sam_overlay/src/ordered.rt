@@ -8,7 +8,7 @@ ghost use Rattle.sam_overlay.specs.Calls.{Asks, Brings, CellsGo, DropsUpTo, Keep
 ghost use Rattle.sam_overlay.specs.Ordered.{ActsNext, IsAsked, NoneFinds, closing_group, most_waiting_requests, new_ordered, ordered_checks, queue_after, shared_with};
 ghost use Rattle.sam_overlay.specs.Outcomes.{Leads, Replaces};
 ghost use Rattle.sam_overlay.specs.Overlays.{StopsOnly, end_step, is_request, told_at};
-ghost use Rattle.sam_overlay.specs.Requests.{put_limit};
+ghost use Rattle.sam_overlay.specs.Requests.{is_closing, put_limit};
 
 use crate::fault::{AskFault, PutFault, ReplaceFault};
 use crate::layers::Place;
@@ -75,6 +75,13 @@ impl OrderedOverlay {
         ensures { result ≡ length self.now.queue }
     {
         self.queue.len()
+    }
+
+    /// Returns whether a request waits that closes a file: until it acts the file is open, and no edit of it is taken any more.
+    pub fn is_closing(&self, tag: u16) -> bool
+        ensures { result ≡ is_closing self.now.queue tag }
+    {
+        self.queue.closes(tag)
     }
 
     /// Puts `runes` in the place of what is shown of a file from place `p` to place `q`, behind all requests that wait. That is shown at

@@ -230,6 +230,21 @@ static void refusals(void)
     free_both();
 }
 
+/* Behind a request that closes a file no line is taken for it, though it is open until then: the line would find another file. */
+static void behind_a_close(void)
+{
+    open_both("one\n", true);
+    memset(room, ' ', LONG_LINE + 1);
+    WANT(ask_for(SAM_EVENT_CLOSE, 1, 0, 0), SAM_OK);
+    shows(1, "one\n");
+    run(1, "1p\n", 3, SAM_NOT_TEXT);
+    run(1, "1p", 2, SAM_REFUSAL_NOT_OPEN);
+    run(1, room, LONG_LINE + 1, SAM_REFUSAL_NOT_OPEN);
+    settle();
+    run(1, "1p", 2, SAM_REFUSAL_NOT_OPEN);
+    free_both();
+}
+
 static void no_handles(sam_client *none)
 {
     uint64_t request = 77;
@@ -250,6 +265,7 @@ int main(void)
     lapses();
     leaves();
     refusals();
+    behind_a_close();
     WANT((unsigned long)blocks, 0);
     puts("each command line is told once, with what it printed");
     return 0;

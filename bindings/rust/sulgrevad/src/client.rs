@@ -336,10 +336,10 @@ impl Client {
     /// Returns the number of the request that types its newline. `next_event` tells once that the line has run, and where in the command
     /// file stands what it printed: at most 65,536 runes of that. Or it tells by that number that the line was refused, or lapsed. The
     /// command file is opened for it, and emptied at 100,000 runes. Errors, in this order, and the client is then as it was: `NoMemory`;
-    /// `NotText` if the line has a newline; `Edit(NotOpen)` if the file is not open, is the command file, or the user has left;
-    /// `Edit(TextTooLong)` if the line has more than 400,000 runes; `TooMany` if 1,000 lines are open, or 1,000 requests would wait: it
-    /// has one for each 512 runes, and three more. Or as `ask`, in its order: the line doesn't run then, though some of its runes may come
-    /// to stand in the command file.
+    /// `NotText` if the line has a newline; `Edit(NotOpen)` if the file is not open, a close of it waits, it is the command file, or the
+    /// user has left; `Edit(TextTooLong)` if the line has more than 400,000 runes; `TooMany` if 1,000 lines are open, or 1,000 requests
+    /// would wait: it has one for each 512 runes, and three more. Or as `ask`, in its order: the line doesn't run then, though some of its
+    /// runes may come to stand in the command file.
     pub fn run(&mut self, tag: u16, line: &str) -> Result<u64, Error> {
         let mut request = 0;
         done(unsafe { sys::sam_client_run(self.at(), tag, line.as_ptr(), line.len(), &mut request) })?;
