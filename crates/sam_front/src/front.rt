@@ -6,14 +6,13 @@ ghost use Rattle.sam_line.specs.Line.{is_due};
 ghost use Rattle.sam_overlay.specs.Overlays.{is_request};
 ghost use Rattle.sam_client.specs.Batches.{ReplacesEach};
 ghost use Rattle.sam_client.specs.Clients.Act.{Replace};
-ghost use Rattle.sam_front.specs.Fronts.{Asks, AsksView, BeginsLoad, BeginsSlice, BeginsTask, EmptiesView, EndsSlice, FrontGoesOn, Hears, Idles, Knows, Loads, LoadsNext, LoadsStretch, Says, SaysTask, SaysWrite, Tells, TellsRefusal, Types, Waits, WritesTask, can_be_written, command_len, due_write, ended_run, ends, has_come, is_answer, is_lost, is_open_state, is_own, lapsed, lapsing, left_run, may_load, missing_of, new_front, next_load, request_of, rested, say_fault, sooner, stepping, task_message, telling, told_run, without_left, without_ran};
+ghost use Rattle.sam_front.specs.Fronts.{Asks, BeginsTask, FrontGoesOn, Hears, Idles, Knows, Says, SaysTask, SaysWrite, Tells, Types, Waits, WritesTask, can_be_written, command_len, due_write, ended_run, ends, is_answer, is_lost, lapsed, lapsing, left_run, missing_of, new_front, request_of, rested, say_fault, sooner, stepping, task_message, telling, told_run, without_left, without_ran};
 ghost use Rattle.sam_front.specs.Loader.{later, rest_time, without};
-ghost use Rattle.sam_overlay.specs.Calls.{has_edit_at};
 ghost use Rattle.sam_front.specs.Tasks.{number_of_write};
-ghost use Rattle.sam_term.specs.Term.{is_any_locked, is_open};
+ghost use Rattle.sam_term.specs.Term.{is_any_locked};
 
 use crate::fault::{BeginFault, WriteFault};
-use crate::loader::{Loader, Next, Seen, Slice, Stretch, loaded_at_once, not_before};
+use crate::loader::{Loader, Seen};
 use crate::runs::{Ran, RunState, Runs};
 use crate::tasks::{Task, Tasks};
 use crate::told::{Order, Refused, Told};
@@ -61,11 +60,11 @@ pub struct Front {
     /// The command lines that are not answered.
     pub(crate) runs: Runs,
     /// What is loaded of texts.
-    loader: Loader,
+    pub(crate) loader: Loader,
     /// The number of the request that was told last.
     told: u64,
     /// When a slice may be loaded, where one waits for its time.
-    loads_at: Option<u64>,
+    pub(crate) loads_at: Option<u64>,
     /// Whether the program waits for an answer by itself.
     expects: bool,
     /// Whether the user typed since this went on.
@@ -459,176 +458,6 @@ impl Front {
     {
         let due = self.expects || self.waits();
         self.client.expect(due, now);
-    }
-
-    // ---- What is loaded
-
-    /// Asks for a stretch of a file from a place on, and returns whether it did.
-    fn begin_load(
-        &mut self,
-        tag: u16,
-        place: u32,
-        stretch: Stretch,
-        now: u64,
-    ) -> Result<bool, GoOnFault>
-        ensures { BeginsLoad self.old tag place stretch now result self.new }
-    {
-        match self.ask(UserEvent::Load(tag, place, stretch.count)) {
-            Ok(request) => {
-                self.loader.begin(Slice {
-                    request,
-                    tag,
-                    count: stretch.gaps,
-                    since: now,
-                    has_acted: false,
-                });
-                Ok(true)
-            }
-            Err(AskFault::OutOfMemory) => Err(GoOnFault::OutOfMemory),
-            Err(_) => Ok(false),
-        }
-    }
-
-    /// Asks for as much of a stretch of an open file as is loaded at once, and returns whether it did.
-    fn load_stretch(
-        &mut self,
-        tag: u16,
-        place: u32,
-        count: u32,
-        now: u64,
-    ) -> Result<bool, GoOnFault>
-        ensures { LoadsStretch (is_open self.old.client.ordered.overlay.end.term tag) self.old tag place count now result self.new }
-    {
-        let stretch = match self.client.overlay().end().term().rasp(tag) {
-            Some(rasp) => loaded_at_once(rasp, place, count),
-            None => return Ok(false),
-        };
-        self.begin_load(tag, place, stretch, now)
-    }
-
-    /// Returns whether a load may begin: no request waits, the session goes on, and the line is open.
-    fn may_load(&self) -> bool
-        ensures { result ≡ may_load self.now }
-    {
-        self.client.requests() == 0
-            && !self.client.overlay().end().term().exited()
-            && self.is_line_open()
-    }
-
-    /// Returns whether the line is open.
-    fn is_line_open(&self) -> bool
-        ensures { result ≡ is_open_state self.now.client.line.clock.state }
-    {
-        match self.client.line().state() {
-            State::Open => true,
-            _ => false,
-        }
-    }
-
-    /// Asks for what is to be loaded next, or notes when it may be asked for, and returns whether it asked.
-    fn load_next(&mut self, next: Next, now: u64) -> Result<bool, GoOnFault>
-        ensures { LoadsNext self.old next now result self.new }
-    {
-        match next {
-            Next::Nothing => Ok(false),
-            Next::Wait(time) => {
-                self.loads_at = Some(time);
-                Ok(false)
-            }
-            Next::Load(tag, place, count) => self.load_stretch(tag, place, count, now),
-        }
-    }
-
-    /// Returns the first place of what a line printed whose rune is not loaded; `None` if all of it is loaded.
-    fn missing_of(&self, ran: Ran) -> Option<u32>
-        ensures { result ≡ missing_of self.now ran }
-    {
-        match self.client.overlay().first_gap(0, ran.place) {
-            Some(gap) if gap < ran.place.saturating_add(ran.count) => Some(gap),
-            _ => None,
-        }
-    }
-
-    /// Returns what is to be loaded of what the oldest line printed, while the command file is free; else what the loader says.
-    fn next_load(&self, now: u64) -> Next
-        ensures { result ≡ next_load self.now now }
-    {
-        if let Some(ran) = self.runs.first_ran() {
-            if let Some(gap) = self.missing_of(ran) {
-                if !self.client.overlay().end().term().locked(0) {
-                    let count = ran.place.saturating_add(ran.count).saturating_sub(gap);
-                    let count = count.min(self.loader.at_once());
-                    return not_before(Next::Load(0, gap, count), self.loader.pauses_until(), now);
-                }
-            }
-        }
-        self.loader.next(self.client.overlay(), now)
-    }
-
-    /// Asks for what is to be loaded next, if a load may begin, and returns whether it did.
-    fn begin_slice(&mut self, now: u64) -> Result<bool, GoOnFault>
-        ensures { BeginsSlice (may_load self.old) self.old now result self.new }
-    {
-        if !self.may_load() {
-            if !self.is_line_open() {
-                self.loader.note_break();
-            }
-            return Ok(false);
-        }
-        let next = self.next_load(now);
-        self.load_next(next, now)
-    }
-
-    /// Asks for the view of a file to be emptied.
-    fn ask_view(&mut self, tag: u16) -> Result<(), GoOnFault>
-        ensures { AsksView self.old tag result self.new }
-    {
-        match self.ask(UserEvent::View(tag, 0, 0)) {
-            Ok(request) => {
-                self.loader.note_view(request);
-                Ok(())
-            }
-            Err(AskFault::OutOfMemory) => Err(GoOnFault::OutOfMemory),
-            Err(_) => Ok(()),
-        }
-    }
-
-    /// Empties the view of a file, so that the terminal asks for nothing of it by itself; not where an edit waits over it, behind which the
-    /// request, and all others, would wait.
-    fn empty_view(&mut self, tag: u16) -> Result<(), GoOnFault>
-        ensures { EmptiesView (has_edit_at self.old.client.ordered.overlay tag) self.old tag result self.new }
-    {
-        if self.client.overlay().is_waiting(tag) {
-            return Ok(());
-        }
-        self.ask_view(tag)
-    }
-
-    /// Empties the view of what was being loaded, and notes that it has come, if it has. Returns whether it has.
-    fn end_slice(&mut self, slice: Slice, now: u64) -> Result<bool, GoOnFault>
-        ensures { EndsSlice (has_come self.old slice) self.old slice now result self.new }
-    {
-        if !slice.has_acted || self.client.overlay().end().term().locked(slice.tag) {
-            return Ok(false);
-        }
-        match self.empty_view(slice.tag) {
-            Ok(()) => {
-                let round_trip = self.client.line().round_trip();
-                self.loader.end(round_trip, now);
-                Ok(true)
-            }
-            Err(why) => Err(why),
-        }
-    }
-
-    /// Goes on with what is loaded, and returns whether it did something.
-    fn load(&mut self, now: u64) -> Result<bool, GoOnFault>
-        ensures { Loads self.old now result self.new }
-    {
-        match self.loader.slice() {
-            Some(slice) => self.end_slice(slice, now),
-            None => self.begin_slice(now),
-        }
     }
 
     // ---- Going on

@@ -4,6 +4,7 @@
 mod fault;
 mod front;
 mod loader;
+mod loading;
 mod running;
 mod runs;
 mod tasks;
