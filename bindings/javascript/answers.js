@@ -64,6 +64,10 @@ export class ByNumber {
     this.#waiting.set(number, [...(this.#waiting.get(number) ?? []), answer]);
   }
 
+  get isEmpty() {
+    return this.#waiting.size === 0;
+  }
+
   /** Returns those who wait for this number, and no more do. */
   take(number) {
     const answers = this.#waiting.get(number) ?? [];

@@ -5,7 +5,6 @@ const MOST_RUNES = 1_000_000; // of a text
 export class Document {
   #session;
   #opened;
-  isClosing = false;
 
   /** `opened` is a promise that it is open; null if it is. */
   constructor(session, tag, opened) {

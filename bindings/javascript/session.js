@@ -257,15 +257,14 @@ export class Session extends EventTarget {
     this.#goSoon();
   }
 
-  async run(tag, line) {
-    this.#check();
-    if (!this.#client.file(tag).isOpen || this.#documents.get(tag)?.isClosing) throw new Missing(Status.NONE);
-    if (line.includes("\n")) throw new RangeError("a command line has no newline inside");
-    return this.#answers.promise((answer) => this.#runs.add(this.#client.run(tag, line), answer));
+  run(tag, line) {
+    return this.#answers.promise((answer) => {
+      this.#check();
+      this.#runs.add(this.#client.run(tag, line), answer);
+    });
   }
 
   async closeDocument(document) {
-    document.isClosing = true;
     await this.request(EventKind.CLOSE, { tag: document.tag });
     await this.#answers.until(() => !document.isOpen);
     this.#forget(document.tag);
@@ -273,6 +272,7 @@ export class Session extends EventTarget {
 
   async close() {
     try {
+      await this.#answers.until(() => this.isOver || this.#runs.isEmpty); // what lines print doesn't come once the user has left
       if (!this.isOver) await this.request(EventKind.EXIT);
     } catch (error) {
       if (!this.isOver) throw error;

@@ -1141,17 +1141,16 @@ export declare class Session extends EventTarget {
    * NoMemory, SessionOver and SessionLost. */
   write(tag: number): Promise<Note>;
   /** Runs a command line on an open file as it is shown now, and returns what the line printed, at most 65,536 runes of it: one that is
-   * wrong prints `?` and why. docs/reference/COMMANDS.md has the lines. Rejects with Missing if the file is not open, RangeError for a
-   * newline in the line, in which `\n` stands for one, NotText, NoMemory, EditRefused for a line of more than 400,000 runes, or one for
-   * which the command file has no room, a SamError with the code TOO_MANY if 1,000 requests would wait, SessionOver and SessionLost. */
+   * wrong prints `?` and why. docs/reference/COMMANDS.md has the lines. Rejects with what `run` of a client throws, with EditRefused for one
+   * for which the command file has no room, and with SessionOver and SessionLost. */
   run(tag: number, line: string): Promise<string>;
   /** Closes a document, after all edits that were made before: what is not written is lost. */
   closeDocument(document: Document): Promise<void>;
   /** Doubts the line, because the machine is in another network, as where a page hears `online`: the host is asked, and if it doesn't
    * answer within 2 seconds another connection is made. One that is to be made is tried after 1 second at most. */
   addressChanged(): void;
-  /** Ends the session at the host, after all that was asked for before, and returns once the host has ended it. What is not written is
-   * lost, unless the host saves it aside. Rejects with SessionLost if it is lost before, and with what `request` rejects. */
+  /** Ends the session at the host, after all that was asked for before, command lines with their answers, and returns once the host has
+   * ended it. What is not written is lost, unless the host saves it aside. Rejects with SessionLost if it is lost before, and with what `request` rejects. */
   close(): Promise<void>;
   /** Ends this end alone, at once: the session stays at the host, as after a crash of this program. */
   leave(): void;

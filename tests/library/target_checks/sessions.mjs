@@ -203,7 +203,8 @@ async function checkRuns() {
   const all = document.text();
   for (let run = 0; run < 100; run++) expect((await document.run(",p")) === all, `run ${run} prints something else`);
   expect(session.client.len(0) < 102_000, "what was printed is kept for good");
-  same((await rejection(document.run("a\nb"))).constructor, RangeError);
+  isError(await rejection(document.run("a\nb")), "NotText", "NOT_TEXT");
+  isError(await rejection(session.run(2, "1")), "EditRefused", "REFUSAL_NOT_OPEN");
   session.leave();
 }
 
@@ -220,7 +221,7 @@ async function checkRefusedRequests() {
   same((await Promise.all(paths)).map(({ kind, path }) => [kind, path[0]]), [[NoteKind.NAMES, 97], [NoteKind.NAMES, 98]]);
   session.tell(NoteKind.RELOADED, { tag: 1, number: 2 });
   const closing = document.close();
-  isError(await rejection(document.run("1")), "Missing", "NONE");
+  isError(await rejection(document.run("1")), "EditRefused", "REFUSAL_NOT_OPEN");
   isError(await rejection(document.write()), "EditRefused", "REFUSAL_NO_FILE");
   await closing;
   session.leave();
@@ -368,10 +369,13 @@ async function checkEnds() {
   same((await new Session(other.connect, { id: ID }).over).message, "the host is of another version: both sides have to be of one release");
 }
 
+/** A session ends behind all that was asked for before: what a command line prints comes first. */
 async function checkClose() {
-  const { net, session, editor } = await begun({ a: "hello" });
+  const { net, session, editor, document } = await begun({ a: "hello" });
   editor.replace(0, 0, "typed ");
+  const printed = document.run(",p");
   const closing = session.close();
+  same(await printed, "typed hello");
   await until(() => net.far.host.isDone, "the host is done");
   net.far.tell({ kind: NoteKind.ENDED });
   net.flush();
