@@ -6,9 +6,9 @@
 #ifndef FRONTING_H
 #define FRONTING_H
 
-#include "wanting.h"
+#include "edited_text.h"
 
-enum { MOST = 8192, EDITED = 1, COMMANDS = 2, PAUSE = 60000 };
+enum { PAUSE = 60000 };
 
 static sam_host host = SAM_HOST_INIT;
 static sam_link host_end = SAM_LINK_INIT;
@@ -19,29 +19,7 @@ static uint64_t newest_request, told_request; /* the numbers of the request that
 static uint64_t refused_event, refused_request;
 static sam_status refused_why;
 
-/* A text of runes, or gaps. */
-struct text {
-    uint32_t runes[MOST], len;
-};
 static struct text copy;
-
-/* The call is made until memory for it was there. */
-#define DONE(call)                                                                                                                         \
-    do {                                                                                                                                   \
-        sam_status done;                                                                                                                   \
-        while ((done = (call)) == SAM_NO_MEMORY || done == SAM_UNFINISHED)                                                                 \
-            ;                                                                                                                              \
-        WANT(done, SAM_OK);                                                                                                                \
-    } while (0)
-
-/* `gone` runes from the place on give way to these. */
-static inline void change(struct text *text, uint32_t place, uint32_t gone, const uint32_t *runes, uint32_t came)
-{
-    WANT(place + gone <= text->len && text->len - gone + came <= MOST, 1);
-    memmove(text->runes + place + came, text->runes + place + gone, (text->len - place - gone) * sizeof *runes);
-    memcpy(text->runes + place, runes, came * sizeof *runes);
-    text->len = text->len - gone + came;
-}
 
 /* ---- What is told ---- */
 

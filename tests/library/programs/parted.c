@@ -8,24 +8,13 @@
  */
 #include "fronting.h"
 #include "link_bytes.h"
+#include "signed_edits.h"
 
-enum { LOADED = 400, PIECE = 48, ALL_KINDS = 20, SIGN = 0x20AC };
+enum { PIECE = 48, ALL_KINDS = 20 };
 
-static uint64_t state;
 static bool sends;
 static unsigned long edits, lines, writes, notes, breaks;
-static struct text alone; /* what the edits make on one machine */
-static struct text saved; /* the same when the last write was asked for */
-static long signs;        /* how many the user has typed and not taken out again */
-
-/* A number below `below`, by xorshift. */
-static uint32_t pick(uint32_t below)
-{
-    state ^= state << 13;
-    state ^= state >> 7;
-    state ^= state << 17;
-    return (uint32_t)(state >> 33) % below;
-}
+static struct text saved; /* what the edits made on one machine when the last write was asked for */
 
 /* ---- The user ---- */
 
@@ -39,36 +28,17 @@ static void event(sam_event_kind kind, uint16_t tag, uint32_t start, uint32_t nu
 
 static void edit(void)
 {
-    static const struct {
-        const char *utf8;
-        uint32_t runes[4], len;
-    } typed[] = {{"", {0}, 0},
-                 {"\xE2\x82\xAC", {SIGN}, 1},
-                 {"e\xE2\x82\xAC", {'e', SIGN}, 2},
-                 {"\xE2\x82\xAC\n\xE2\x82\xAC", {SIGN, '\n', SIGN}, 3}};
-    uint32_t which = pick(4), start = pick(copy.len + 1), gone = pick(4);
-    if (gone > copy.len - start)
-        gone = copy.len - start;
-    for (uint32_t i = 0; i < gone; i++)
-        signs -= copy.runes[start + i] == SIGN;
-    for (uint32_t i = 0; i < typed[which].len; i++)
-        signs += typed[which].runes[i] == SIGN;
-    type(start, gone, typed[which].utf8, typed[which].runes, typed[which].len);
+    struct edit edit = pick_edit(&copy);
+    type(edit.start, edit.gone, edit.utf8, edit.runes, edit.len);
     if (!sends)
-        change(&alone, start, gone, typed[which].runes, typed[which].len);
+        take_edit(&alone, &edit);
     edits++;
 }
 
-/* Lines that leave each sign. */
-static const char commands[] = ",x/e/c/EE/\n,x/EE/c/e/\n#5a/++/\n,x/++/d\n$a/z/\n";
-
 static void send_line(void)
 {
-    static const struct {
-        uint32_t start, end;
-    } at[] = {{0, 10}, {11, 21}, {22, 29}, {30, 37}, {38, 43}};
-    uint32_t which = pick(5);
-    event(SAM_EVENT_SELECT, COMMANDS, at[which].start, at[which].end);
+    struct range line = pick_line();
+    event(SAM_EVENT_SELECT, COMMANDS, line.start, line.end);
     event(SAM_EVENT_SEND, COMMANDS, 0, 0);
     lines++;
 }
@@ -109,9 +79,7 @@ static void begin(void)
 {
     static uint8_t text[LOADED];
     uint16_t tag = 0;
-    for (uint32_t i = 0; i < LOADED; i++)
-        alone.runes[i] = text[i] = i % 40 == 39 ? '\n' : (uint8_t)('a' + i % 7);
-    alone.len = LOADED;
+    begin_text(text);
     DONE(sam_host_new(&host));
     DONE(sam_link_new(&host_end, SAM_LINK_HOST, id));
     DONE(sam_host_add_file(&host, BYTES("edited"), text, LOADED, &tag));
@@ -162,7 +130,6 @@ static void rest(void)
     static uint8_t bytes[4 * MOST], shown[4 * MOST];
     uint32_t waiting = 9, runes = 0, len = 0;
     size_t count = 0, shown_count = 0;
-    long left = 0;
     bool has = false;
     if (attempt == 0)
         connect();
@@ -178,9 +145,7 @@ static void rest(void)
     WANT(runes == len && runes == copy.len, 1);
     WANT(sam_client_text(&client, EDITED, 0, shown, count, &shown_count, &runes), SAM_OK);
     WANT(shown_count == count && memcmp(shown, bytes, count) == 0, 1);
-    for (uint32_t i = 0; i < copy.len; i++)
-        left += copy.runes[i] == SIGN;
-    WANT(left, signs);
+    WANT(count_signs(&copy), signs);
     WANT(notes_up == notes && notes_down == notes && refused == 0, 1);
     if (!sends && writes > 0) {
         WANT(sam_host_saved(&host, EDITED, 0, bytes, sizeof bytes, &count, &runes), SAM_OK);
@@ -196,7 +161,7 @@ int main(int argc, char **argv)
     if (argc != 3)
         return 2;
     unsigned long seed = strtoul(argv[1], NULL, 10), steps = strtoul(argv[2], NULL, 10);
-    state = seed * 2654435769U + 88172645463325252U;
+    begin_picks(seed);
     sends = seed % 2 == 1;
     uint32_t delay = 1 + pick(6); /* a greater one has more wait */
     setvbuf(stdout, NULL, _IONBF, 0);

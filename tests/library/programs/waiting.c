@@ -6,53 +6,17 @@
  * is sent: there it is the text that the same edits make on one machine. A call that wants memory is made again, so the program prints the
  * same whichever request for memory was refused. It ends with status 0, or 1 and what is wrong.
  */
-#include "wanting.h"
+#include "signed_edits.h"
 
-enum { MOST = 8192, LOADED = 400, PIECE = 48, ALL_KINDS = 16, EDITED = 1, COMMANDS = 2, SIGN = 0x20AC };
+enum { PIECE = 48, ALL_KINDS = 16 };
 
 static sam_host host = SAM_HOST_INIT;
 static sam_overlay overlay = SAM_OVERLAY_INIT;
-static uint64_t state;
 static bool sends;
 static unsigned long edits, told, lines, writes;
 static uint64_t asked, answered; /* the numbers of the last request that was taken, and of the last that was told of */
 
-/* A text of runes, or gaps. */
-struct text {
-    uint32_t runes[MOST], len;
-};
-static struct text copy, alone; /* the editor's own; what the edits make on one machine */
-static long signs;              /* how many the user has typed and not taken out again */
-
-/* A number below `below`, by xorshift. */
-static uint32_t pick(uint32_t below)
-{
-    state ^= state << 13;
-    state ^= state >> 7;
-    state ^= state << 17;
-    return (uint32_t)(state >> 33) % below;
-}
-
-/* The call is made until memory for it was there. */
-#define TRIED(status, call)                                                                                                                \
-    do                                                                                                                                     \
-        status = (call);                                                                                                                   \
-    while (status == SAM_NO_MEMORY || status == SAM_UNFINISHED)
-#define DONE(call)                                                                                                                         \
-    do {                                                                                                                                   \
-        sam_status came;                                                                                                                   \
-        TRIED(came, call);                                                                                                                 \
-        WANT(came, SAM_OK);                                                                                                                \
-    } while (0)
-
-/* `gone` runes from the place on give way to these. */
-static void change(struct text *text, uint32_t place, uint32_t gone, const uint32_t *runes, uint32_t came)
-{
-    WANT(place + gone <= text->len && text->len - gone + came <= MOST, 1);
-    memmove(text->runes + place + came, text->runes + place + gone, (text->len - place - gone) * sizeof *runes);
-    memcpy(text->runes + place, runes, came * sizeof *runes);
-    text->len = text->len - gone + came;
-}
+static struct text copy; /* the editor's own */
 
 /* ---- What is shown ---- */
 
@@ -177,38 +141,19 @@ static void ask(sam_event_kind kind, uint16_t tag, uint32_t start, uint32_t numb
 
 static void edit(void)
 {
-    static const struct {
-        const char *utf8;
-        uint32_t runes[4], len;
-    } typed[] = {{"", {0}, 0},
-                 {"\xE2\x82\xAC", {SIGN}, 1},
-                 {"e\xE2\x82\xAC", {'e', SIGN}, 2},
-                 {"\xE2\x82\xAC\n\xE2\x82\xAC", {SIGN, '\n', SIGN}, 3}};
-    uint32_t which = pick(4), start = pick(copy.len + 1), gone = pick(4);
-    if (gone > copy.len - start)
-        gone = copy.len - start;
-    for (uint32_t i = 0; i < gone; i++)
-        signs -= copy.runes[start + i] == SIGN;
-    for (uint32_t i = 0; i < typed[which].len; i++)
-        signs += typed[which].runes[i] == SIGN;
-    DONE(sam_overlay_replace(&overlay, EDITED, start, start + gone, (const uint8_t *)typed[which].utf8, strlen(typed[which].utf8)));
-    change(&copy, start, gone, typed[which].runes, typed[which].len);
+    struct edit edit = pick_edit(&copy);
+    DONE(sam_overlay_replace(&overlay, EDITED, edit.start, edit.start + edit.gone, (const uint8_t *)edit.utf8, strlen(edit.utf8)));
+    take_edit(&copy, &edit);
     if (!sends)
-        change(&alone, start, gone, typed[which].runes, typed[which].len);
+        take_edit(&alone, &edit);
     same_as_shown();
     edits++;
 }
 
-/* Lines that leave each sign. */
-static const char commands[] = ",x/e/c/EE/\n,x/EE/c/e/\n#5a/++/\n,x/++/d\n$a/z/\n";
-
 static void send_line(void)
 {
-    static const struct {
-        uint32_t start, end;
-    } at[] = {{0, 10}, {11, 21}, {22, 29}, {30, 37}, {38, 43}};
-    uint32_t which = pick(5);
-    ask(SAM_EVENT_SELECT, COMMANDS, at[which].start, at[which].end);
+    struct range line = pick_line();
+    ask(SAM_EVENT_SELECT, COMMANDS, line.start, line.end);
     ask(SAM_EVENT_SEND, COMMANDS, 0, 0);
     lines++;
 }
@@ -238,9 +183,7 @@ static void begin(void)
 {
     static uint8_t text[LOADED];
     uint16_t tag = 0;
-    for (uint32_t i = 0; i < LOADED; i++)
-        alone.runes[i] = text[i] = i % 40 == 39 ? '\n' : (uint8_t)('a' + i % 7);
-    alone.len = LOADED;
+    begin_text(text);
     DONE(sam_host_new(&host));
     DONE(sam_host_add_file(&host, BYTES("edited"), text, LOADED, &tag));
     DONE(sam_host_add_file(&host, BYTES("commands"), BYTES(commands), &tag));
@@ -260,7 +203,6 @@ static void rest(void)
     static uint8_t bytes[4 * MOST], shown[4 * MOST];
     uint32_t waiting = 9, runes = 0, len = 0;
     size_t count = 0;
-    long left = 0;
     drain();
     WANT(answered, asked);
     event(SAM_EVENT_LOAD, EDITED, 0, MOST);
@@ -273,9 +215,7 @@ static void rest(void)
     size_t shown_count = 0;
     WANT(sam_overlay_text(&overlay, EDITED, 0, shown, count, &shown_count, &runes), SAM_OK);
     WANT(shown_count == count && memcmp(shown, bytes, count) == 0, 1);
-    for (uint32_t i = 0; i < copy.len; i++)
-        left += copy.runes[i] == SIGN;
-    WANT(left, signs);
+    WANT(count_signs(&copy), signs);
     if (!sends)
         WANT(alone.len == copy.len && memcmp(alone.runes, copy.runes, copy.len * sizeof *copy.runes) == 0, 1);
 }
@@ -285,7 +225,7 @@ int main(int argc, char **argv)
     if (argc != 3)
         return 2;
     unsigned long seed = strtoul(argv[1], NULL, 10), steps = strtoul(argv[2], NULL, 10);
-    state = seed * 2654435769U + 88172645463325252U;
+    begin_picks(seed);
     sends = seed % 2 == 1;
     uint32_t delay = 1 + pick(6); /* a greater one has more wait */
     setvbuf(stdout, NULL, _IONBF, 0);
