@@ -1,4 +1,5 @@
 """Command lines of the user: what has to hold before the host runs one."""
+from contextlib import suppress
 from itertools import accumulate
 from operator import add, sub
 from typing import Dict, List, Optional, Set, Tuple
@@ -13,6 +14,8 @@ from ..view.windows import Window
 
 
 MOST_LOOKED_AT = 4_096  # runes that came at the end of the command file which may say why a line didn't run
+MOST_KEPT = 500_000  # runes of the command file, the front of which then goes
+LEAST_LEFT = 250_000  # of them
 
 
 def line_at(window: Window, place: int, least: int = 0) -> str:
@@ -103,6 +106,18 @@ class Commands:
             place = self._ends.get(tag, window.dot[1])
             if window.dot != (place, place):
                 window.select(place)
+        with suppress(MemoryError):  # the next line tries it again
+            self._cut_front()
+
+    def _cut_front(self) -> None:
+        """Takes the front of a long command file out, up to what its window shows: one that is full would take no line any more."""
+        start, end = self.command.dot
+        gone = min(self.command.length - LEAST_LEFT, self.command.top, start)
+        if self.command.length <= MOST_KEPT or gone <= 0:
+            return
+        self.terminal.select(COMMAND, 0, gone)
+        self.texts.replace(COMMAND, "")
+        self.terminal.select(COMMAND, start - gone, end - gone)
 
     def _meet_error(self, line: str, tag: int, before: int) -> bool:
         """Says what helps where the host didn't run a line. Returns whether other lines run in its place."""

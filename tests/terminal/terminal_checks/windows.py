@@ -100,6 +100,22 @@ def check_small_command_window(folder):
         session.leave()
 
 
+def check_long_command_window(folder):
+    """What lines print pushes the front out of a long command window, so it takes lines for ever; what it shows stays."""
+    pair, editor, key, text = opened(("x" * 99 + "\n") * 4000)
+    for run in range(4):
+        pair.press(key("Esc"), text("=\n"), text(",p\n"), key("Esc"))
+        pair.finish()
+        length, shown = editor.command.length, editor.command.read(editor.command.top, 99)
+        expect(length <= 500_000, f"after line {run} the command window has {length} characters")
+        expect(shown == "x" * 99, f"after line {run} it shows {shown!r}")
+    pair.press(key("Esc"), text("2p"), key("Left"), text("1"), key("Right"), text("\n"))
+    pair.finish()
+    end = editor.command.length
+    last = editor.command.read(end - 105, 105)
+    expect(last == "12p\n" + "x" * 99 + "\n" or last.endswith("x" * 99 + "\n"), f"it ends in {last!r}")
+
+
 def check_name_that_a_shell_reads(folder):
     """A file whose name the host's shell reads otherwise than it was given is no folder: it is shown at once, and takes what was typed."""
     for asked_for, is_menu in ((["'my file'"], False), (["file*"], True)):
