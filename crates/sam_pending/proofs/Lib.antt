@@ -15,3 +15,4 @@ pub mod PlaceLaws
 pub mod LayerLaws
 pub mod BlockLaws
 pub mod WholeLaws
+pub mod OneMachineLaws

@@ -5,3 +5,4 @@ pub mod Layers
 pub mod Faults
 pub mod Puts
 pub mod Blocks
+pub mod OneMachine

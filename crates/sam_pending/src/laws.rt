@@ -3,6 +3,7 @@
 ghost use Rattle.std.specs.Prelude.{◌≡◌, ◌<◌, ◌≤◌, ◌+◌, ◌-◌, ◌++◌, ℕ, List, length, map, take, drop, reverse, Some, All};
 ghost use Rattle.sam_pending.specs.Groups.{EditsKeepText, PutIsText, RemovalsGoOutOfText, RemovalsMovePlaces};
 ghost use Rattle.sam_pending.specs.Cells.{Cell, PartialText, Change, put, all_put, members, in_rasp, is_shown, rasp_of, shown_of, waiting_of, resting, part_by, take_by, drop_by, shown_place, replaced, inserted, removed, filled, sent, changes_of, gone_from, IsOf, text_at, place_at, IsOldest, IsNewest, IsMade, IsTakenBack};
+ghost use Rattle.sam_pending.specs.OneMachine.{Act, Ends, File, Leads, found, local_found, local_text, to_find, unasked};
 
 /// States that what is typed is what is seen: `s` in place of what was shown from `p` to `q`. While the edit waits the rasp stays.
 pub fn typed_is_shown()
@@ -109,4 +110,17 @@ pub fn requests_find_what_was_shown()
 /// it is the text before it then. So a range of which all goes is empty there.
 pub fn places_stay_behind_their_text()
     ensures { RemovalsMovePlaces }
+{}
+
+/// States that a file ends as on one machine where the host changes nothing of its text meanwhile. What is shown is the text there. The
+/// requests that acted found what they find there, in the same order, and those that wait come to what the others find. Where nothing waits
+/// any more, the rasp is the text there, too. And from each state a way leads to that: edits that come to the rasp, and requests that act.
+#[tactic(auto, using(crate::proofs::OneMachineLaws::one_machine_facts))]
+pub fn as_on_one_machine()
+    ensures shown { (cs : List Cell) (acts : List Act) (n : File) → Leads (unasked cs) acts n → shown_of n.cells ≡ local_text (shown_of cs) acts }
+    ensures found { (cs : List Cell) (acts : List Act) (n : File) → Leads (unasked cs) acts n
+        → local_found (shown_of cs) acts ≡ found acts ++ to_find n }
+    ensures rests { (cs : List Cell) (acts : List Act) (r : PartialText) → Leads (unasked cs) acts (unasked (resting r))
+        → (r ≡ local_text (shown_of cs) acts) × (found acts ≡ local_found (shown_of cs) acts) }
+    ensures ends { (a : File) → Ends a }
 {}
