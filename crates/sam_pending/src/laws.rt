@@ -112,9 +112,10 @@ pub fn places_stay_behind_their_text()
     ensures { RemovalsMovePlaces }
 {}
 
-/// States that a file ends as on one machine where the host changes nothing of its text meanwhile. What is shown is the text there. The
-/// requests that acted found what they find there, in the same order, and those that wait come to what the others find. Where nothing waits
-/// any more, the rasp is the text there, too. And from each state a way leads to that: edits that come to the rasp, and requests that act.
+/// States that a file ends as on one machine, where the host changes nothing of its text meanwhile. What is shown is the text there. The
+/// requests that acted found what they find there, in their order, and those that wait come to what the others find there. Once nothing
+/// waits any more, the rasp is the text there, too, and all requests found theirs. And from each state a way leads to that, by edits that
+/// come to the rasp and requests that act.
 #[tactic(auto, using(crate::proofs::OneMachineLaws::one_machine_facts))]
 pub fn as_on_one_machine()
     ensures shown { (cs : List Cell) (acts : List Act) (n : File) → Leads (unasked cs) acts n → shown_of n.cells ≡ local_text (shown_of cs) acts }
