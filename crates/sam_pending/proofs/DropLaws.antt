@@ -1,12 +1,13 @@
 -- Runes that wait are taken back.
-use Rattle.std.proofs.Common.{◌≡◌, refl, sym, ap, ◌∙◌, subst, ℕ, suc, ◌+◌, ◌≤◌, ◌<◌, Bool, true, false, not, cond, List, [], ◌∷◌, ◌++◌, map, length, take, drop, Option, Some, None, arith, append_assoc, append-nil, length-append, length-drop, IsTrue}
+use Rattle.std.proofs.Common.{◌≡◌, refl, sym, ap, ◌∙◌, subst, ℕ, suc, ◌+◌, ◌-◌, ◌≤◌, ◌<◌, Bool, true, false, not, cond, List, [], ◌∷◌, ◌++◌, map, length, take, drop, Option, Some, None, arith, append_assoc, append-nil, length-append, length-drop, IsTrue}
 use Rattle.std.specs.Prelude.{option_map}
 use Rattle.std.specs.List.{All}
 use Rattle.std.proofs.lemmas.List.Elements.{All-map}
 use Rattle.sam_runes.specs.declared.edit.Edit.{Edit}
-use Rattle.sam_pending.specs.Cells.{PartialText, Cell, IsTakenBack, rasp_of, shown_of, in_rasp, is_shown}
-use Rattle.sam_pending.specs.Runs.{typed_by, runes_of, room, rooms, wait, waits, above, cells, cells_of, reach, Within, is_due, first_due, first_typed, without_typed, edit_at, made_run, made_first, has_due, next_deed}
-use Rattle.sam_pending.specs.Layers.{Layer, IsLayer, DropsNext, first_dropped, next_edit}
+use Rattle.sam_pending.specs.Cells.{PartialText, Cell, IsTakenBack, rasp_of, shown_of, in_rasp, is_shown, text_at}
+use Rattle.sam_pending.specs.Groups.{TakesPlace}
+use Rattle.sam_pending.specs.Runs.{typed_by, runes_of, room, rooms, wait, waits, above, cells, cells_of, reach, Within, is_due, first_due, first_typed, without_typed, edit_at, made_run, made_first, has_due, next_deed, lost_in, passed}
+use Rattle.sam_pending.specs.Layers.{Layer, IsLayer, DropsNext, cells_over, first_dropped, next_edit}
 use Rattle.sam_pending.specs.declared.told.Dropped.{Dropped}
 use Rattle.sam_pending.specs.declared.run.Run.{Run}
 use Rattle.sam_pending.specs.declared.run.Run.TheVariants.{Held, Typed}
@@ -15,6 +16,7 @@ use Rattle.sam_pending.proofs.CellLaws.{members-append, members-three}
 use Rattle.sam_pending.proofs.RunLaws.{take-front, drop-front}
 use Rattle.sam_pending.proofs.SendLaws.{above_shown}
 use Rattle.sam_pending.proofs.DueLaws.{members-typed}
+use Rattle.sam_pending.proofs.TakenLaws.{behind_run, lost_run}
 
 -- ## What it does to the two texts
 
@@ -53,33 +55,48 @@ shown-one : (x : Run) (text : List ℕ) (r : PartialText) → reach x ≤ length
 shown-one x text r w l =
     ap (λ y. length (shown_of y)) (sym (append-nil (cells text r x))) ∙ above_shown (x ∷ []) text r (w, tt) (omega (arith, l))
 
-takes-here : (m : Option ℕ) (x : Run) (xs : List Run) (text : List ℕ) (r : PartialText) (n : ℕ) (a : List Cell) → is_due (Inserts m) x ≡ true → reach x ≤ length text
-    → n ≡ length (shown_of a)
-    → IsTakenBack (a ++ cells_of text r (x ∷ xs)) n (above (x ∷ [])) (edit_at text 0 x).text (a ++ cells_of text r xs)
-takes-here m (Held k d) xs text r n a due w len = absurd cc
-takes-here m (Typed s b d) xs text r n a due w len =
+takes-here : (m : Option ℕ) (x : Run) (xs : List Run) (text : List ℕ) (r : PartialText) (n : ℕ) (a : List Cell) (g z : ℕ) → is_due (Inserts m) x ≡ true
+    → reach x ≤ length text → n ≡ length (shown_of a)
+    → TakesPlace g z (z - passed g (z - length (text_at g a)) x) (a ++ cells_of text r (x ∷ xs)) n (above (x ∷ [])) (edit_at text 0 x).text (a ++ cells_of text r xs)
+takes-here m (Held k d) xs text r n a g z due w len = absurd cc
+takes-here m (Typed s b d) xs text r n a g z due w len =
     let t = runes_of text s in
     let h = map (typed_by b d) t in
     record {
-      before = a;
-      stretch = h;
-      behind = cells_of text r xs;
-      old = sym (append_assoc a h (cells_of text r xs));
-      new = refl;
-      all = All-map (λ c. IsTrue (not (in_rasp c))) (typed_by b d) t (λ j y i. refl);
-      runes = sym (members-typed b d t);
-      place = len;
-      count = sym (shown-one (Typed s b d) text r w (omega arith));
+      taken = record {
+        before = a;
+        stretch = h;
+        behind = cells_of text r xs;
+        old = sym (append_assoc a h (cells_of text r xs));
+        new = refl;
+        all = All-map (λ c. IsTrue (not (in_rasp c))) (typed_by b d) t (λ j y i. refl);
+        runes = sym (members-typed b d t);
+        place = len;
+        count = sym (shown-one (Typed s b d) text r w (omega arith));
+      };
+      place = ap (λ k. z - k) (sym (lost_run g z a (Typed s b d) text r w (omega arith)));
     }
 
-pub takes_back : (m : Option ℕ) (xs : List Run) (text : List ℕ) (r : PartialText) (n : ℕ) (x : Run) (at : ℕ) (a : List Cell) → Within (length text) xs → rooms xs ≤ length r
-    → n ≡ length (shown_of a) → first_typed m n xs ≡ Some (x, at)
-    → IsTakenBack (a ++ cells_of text r xs) at (above (x ∷ [])) (edit_at text 0 x).text (a ++ cells_of text r (without_typed m xs))
-takes_back m [] text r n x at a w l len f = absurd cc
-takes_back m (y ∷ xs) text r n x at a w l len f =
+pub takes_back : (m : Option ℕ) (xs : List Run) (text : List ℕ) (r : PartialText) (n : ℕ) (x : Run) (at : ℕ) (a : List Cell) (g z : ℕ) → Within (length text) xs
+    → rooms xs ≤ length r → n ≡ length (shown_of a) → first_typed m n xs ≡ Some (x, at)
+    → TakesPlace g z (z - lost_in m g (z - length (text_at g a)) xs) (a ++ cells_of text r xs) at (above (x ∷ [])) (edit_at text 0 x).text (a ++ cells_of text r (without_typed m xs))
+takes_back m [] text r n x at a g z w l len f = absurd cc
+takes_back m (y ∷ xs) text r n x at a g z w l len f =
     step (is_due (Inserts m) y) refl f
-    (λ g. takes_back m xs text (drop (room y) r) (n + above (y ∷ [])) x at (a ++ cells text r y) w.1 (omega (arith, l, length-drop (room y) r)) further g)
+    (λ e. takes_back m xs text (drop (room y) r) (n + above (y ∷ [])) x at (a ++ cells text r y) g z w.1 (omega (arith, l, length-drop (room y) r)) further e)
   where
+    k : ℕ
+    k = z - length (text_at g a)
+
+    j : ℕ
+    j = z - length (text_at g (a ++ cells text r y))
+
+    old : List Cell
+    old = a ++ cells text r y ++ cells_of text (drop (room y) r) xs
+
+    new : List Cell
+    new = a ++ cells text r y ++ cells_of text (drop (room y) r) (without_typed m xs)
+
     further : n + above (y ∷ []) ≡ length (shown_of (a ++ cells text r y))
     further =
         omega (
@@ -91,18 +108,21 @@ takes_back m (y ∷ xs) text r n x at a w l len f =
         )
 
     step : (t : Bool) → is_due (Inserts m) y ≡ t → cond t (Some (y, n)) (first_typed m (n + above (y ∷ [])) xs) ≡ Some (x, at)
-        → (first_typed m (n + above (y ∷ [])) xs ≡ Some (x, at)
-        → IsTakenBack (a ++ cells text r y ++ cells_of text (drop (room y) r) xs) at (above (x ∷ [])) (edit_at text 0 x).text (a ++ cells text r y ++ cells_of text (drop (room y) r) (without_typed m xs)))
-        → IsTakenBack (a ++ cells_of text r (y ∷ xs)) at (above (x ∷ [])) (edit_at text 0 x).text (a ++ cells_of text r (cond t xs (y ∷ without_typed m xs)))
-    step true t g next =
+        → (first_typed m (n + above (y ∷ [])) xs ≡ Some (x, at) → TakesPlace g z (z - lost_in m g j xs) old at (above (x ∷ [])) (edit_at text 0 x).text new)
+        → TakesPlace g z (z - cond t (passed g k y) (lost_in m g (k - passed g k y) xs)) (a ++ cells_of text r (y ∷ xs)) at (above (x ∷ [])) (edit_at text 0 x).text
+        (a ++ cells_of text r (cond t xs (y ∷ without_typed m xs)))
+    step true t e next =
         let both : (y, n) ≡ (x, at) = cc in
         let one : y ≡ x = ap (λ (p : Run × ℕ). p.0) both in
         let two : n ≡ at = ap (λ (p : Run × ℕ). p.1) both in
-        subst (λ z. IsTakenBack (a ++ cells_of text r (y ∷ xs)) at (above (z ∷ [])) (edit_at text 0 z).text (a ++ cells_of text r xs)) one
-        (subst (λ z. IsTakenBack (a ++ cells_of text r (y ∷ xs)) z (above (y ∷ [])) (edit_at text 0 y).text (a ++ cells_of text r xs)) two (takes-here m y xs text r n a t w.0 len))
-    step false t g next =
-        subst (λ z. IsTakenBack z at (above (x ∷ [])) (edit_at text 0 x).text (a ++ cells_of text r (y ∷ without_typed m xs))) (append_assoc a (cells text r y) (cells_of text (drop (room y) r) xs))
-        (subst (λ z. IsTakenBack (a ++ cells text r y ++ cells_of text (drop (room y) r) xs) at (above (x ∷ [])) (edit_at text 0 x).text z) (append_assoc a (cells text r y) (cells_of text (drop (room y) r) (without_typed m xs))) (next g))
+        subst (λ v. TakesPlace g z (z - passed g k y) (a ++ cells_of text r (y ∷ xs)) at (above (v ∷ [])) (edit_at text 0 v).text (a ++ cells_of text r xs)) one
+        (subst (λ v. TakesPlace g z (z - passed g k y) (a ++ cells_of text r (y ∷ xs)) v (above (y ∷ [])) (edit_at text 0 y).text (a ++ cells_of text r xs)) two
+        (takes-here m y xs text r n a g z t w.0 len))
+    step false t e next =
+        subst (λ v. TakesPlace g z (z - lost_in m g v xs) (a ++ cells_of text r (y ∷ xs)) at (above (x ∷ [])) (edit_at text 0 x).text (a ++ cells_of text r (y ∷ without_typed m xs)))
+        (behind_run g z a y text r w.0 (omega (arith, l)))
+        (subst (λ v. TakesPlace g z (z - lost_in m g j xs) v at (above (x ∷ [])) (edit_at text 0 x).text (a ++ cells_of text r (y ∷ without_typed m xs))) (append_assoc a (cells text r y) (cells_of text (drop (room y) r) xs))
+        (subst (λ v. TakesPlace g z (z - lost_in m g j xs) old at (above (x ∷ [])) (edit_at text 0 x).text v) (append_assoc a (cells text r y) (cells_of text (drop (room y) r) (without_typed m xs))) (next e)))
 
 pub typed_reach : (m : Option ℕ) (xs : List Run) (n k : ℕ) (x : Run) (at : ℕ) → Within n xs → first_typed m k xs ≡ Some (x, at) → reach x ≤ n
 typed_reach m [] n k x at w f = absurd cc
@@ -227,8 +247,13 @@ pub drops_next : (m : Option ℕ) (l : Layer) (x : Run) (at : ℕ) (d : Dropped)
 drops_next m l x at d h more f place count text = record {
   next = next-text m l x at (full-inserts m l.runs more) f ∙ ap Some (sym text);
   cells = λ r o.
-      rw (place, count, text) (takes_back m l.runs l.text r 0 x at [] h.within (omega (arith, o)) refl f);
+      rw (place, count, text) ((takes_back m l.runs l.text r 0 x at [] 0 0 h.within (omega (arith, o)) refl f).taken);
   over = λ r o. without-rooms m l.runs ∙ o;
+  places = λ r g z o.
+      let whole : z - 0 ≡ z = omega arith in
+      rw (place, count, text)
+      (subst (λ v. TakesPlace g z (z - lost_in m g v l.runs) (cells_over r l) at (above (x ∷ [])) (edit_at l.text 0 x).text (cells_over r (first_dropped m l))) whole
+      (takes_back m l.runs l.text r 0 x at [] g z h.within (omega (arith, o)) refl f));
 }
 
 pub ruleset drop_facts = (dropped_layer, full_waits, drops_next)

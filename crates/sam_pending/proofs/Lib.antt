@@ -8,6 +8,7 @@ pub mod SendLaws
 pub mod FillLaws
 pub mod SpotLaws
 pub mod DueLaws
+pub mod TakenLaws
 pub mod DropLaws
 pub mod UpToLaws
 pub mod PutUpToLaws

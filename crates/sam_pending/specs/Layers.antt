@@ -1,10 +1,10 @@
 -- What waits over a rasp: runs, and the text of the runes in them. The rasp itself stands elsewhere.
-use Rattle.std.specs.Prelude.{◌≡◌, ◌≤◌, ◌↔◌, ℕ, Bool, false, List, [], ◌∷◌, length, take, drop, map, reverse, Option, Some, option_map}
+use Rattle.std.specs.Prelude.{◌≡◌, ◌≤◌, ◌↔◌, ◌-◌, ℕ, Bool, false, List, [], ◌∷◌, length, take, drop, map, reverse, Option, Some, option_map}
 use Rattle.sam_runes.specs.Texts.{max_runes, most_in_message}
 use Rattle.sam_runes.specs.declared.edit.Edit.{Edit}
 use Rattle.sam_pending.specs.Cells.{PartialText, Cell, IsTakenBack, all_put}
-use Rattle.sam_pending.specs.Groups.{IsPutUpTo}
-use Rattle.sam_pending.specs.Runs.{runes_of, cells_of, rooms, waits, above, newest_of, Within, sent_runs, removal_changes, edit_changes, first_due, edit_at, made_first, next_deed, without_typed}
+use Rattle.sam_pending.specs.Groups.{IsPutUpTo, TakesPlace}
+use Rattle.sam_pending.specs.Runs.{runes_of, cells_of, rooms, waits, above, newest_of, lost_in, Within, sent_runs, removal_changes, edit_changes, first_due, edit_at, made_first, next_deed, without_typed}
 use Rattle.sam_pending.specs.declared.run.Run.{Run}
 use Rattle.sam_pending.specs.declared.run.Run.TheVariants.{Held, Typed}
 use Rattle.sam_pending.specs.declared.told.Dropped.{Dropped}
@@ -83,11 +83,13 @@ next_made m l = record l { runs = made_first (next_deed m l.runs) l.runs }
 abbrev pub first_dropped : Option ℕ → Layer → Layer
 first_dropped m l = record l { runs = without_typed m l.runs }
 
--- over whatever rasp, so the runes of the layer's next edit are taken back
+-- over whatever rasp, so the runes of the layer's next edit are taken back, and so the places go of the texts that requests come to
 pub record DropsNext (m : Option ℕ) (l : Layer) (d : Dropped) : Type 0 where
   pub next : option_map (λ (e : Edit). e.text) (next_edit m l) ≡ Some d.text
   pub cells : (r : PartialText) → IsOver r l → IsTakenBack (cells_over r l) d.place d.count d.text (cells_over r (first_dropped m l))
   pub over : (r : PartialText) → IsOver r l → IsOver r (first_dropped m l)
+  pub places : (r : PartialText) (g x : ℕ) → IsOver r l
+      → TakesPlace g x (x - lost_in m g x l.runs) (cells_over r l) d.place d.count d.text (cells_over r (first_dropped m l))
 
 -- over whatever rasp, an edit of these groups is left to put exactly if that is so of some cell
 abbrev pub SaysLeft : ℕ → Layer → Bool → Type 0

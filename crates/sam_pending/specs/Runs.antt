@@ -342,6 +342,11 @@ gone_in g n k y [] = 0
 gone_in g n k y (x ∷ xs) =
     min k (held_of (passed g y x) x - n) + gone_in g (n - room x) (k - (room x - n)) (y - passed g y x) xs
 
+-- of its first y cells, those that stand in it, how many go as the first run is taken back whose runes are due
+abbrev pub lost_in : Option ℕ → ℕ → ℕ → List Run → ℕ
+lost_in m g y [] = 0
+lost_in m g y (x ∷ xs) = if is_due (Inserts m) x then passed g y x else lost_in m g (y - passed g y x) xs
+
 -- ## What the code says of changes
 
 abbrev pub edit_change : Edit → Change

@@ -1,7 +1,7 @@
 //! Laws of the definitions in specs/. Each is the contract of a function that does nothing; a caller's proof may use what it says.
 
 ghost use Rattle.std.specs.Prelude.{◌≡◌, ◌<◌, ◌≤◌, ◌+◌, ◌-◌, ◌++◌, ℕ, List, length, map, take, drop, reverse, Some, All};
-ghost use Rattle.sam_pending.specs.Groups.{EditsKeepText, PutIsText, RemovalsGoOutOfText, RemovalsMovePlaces};
+ghost use Rattle.sam_pending.specs.Groups.{DropsMovePlaces, EditsKeepText, PutIsText, RemovalsGoOutOfText, RemovalsMovePlaces};
 ghost use Rattle.sam_pending.specs.Cells.{Cell, PartialText, Change, put, all_put, members, in_rasp, is_shown, rasp_of, shown_of, waiting_of, resting, part_by, take_by, drop_by, shown_place, replaced, inserted, removed, filled, sent, changes_of, gone_from, IsOf, text_at, place_at, IsOldest, IsNewest, IsMade, IsTakenBack};
 ghost use Rattle.sam_pending.specs.OneMachine.{Act, Ends, File, Leads, found, local_found, local_text, to_find, unasked};
 
@@ -124,4 +124,10 @@ pub fn as_on_one_machine()
     ensures rests { (cs : List Cell) (acts : List Act) (r : PartialText) → Leads (unasked cs) acts (unasked (resting r))
         → (r ≡ local_text (shown_of cs) acts) × (found acts ≡ local_found (shown_of cs) acts) }
     ensures ends { (a : File) → Ends a }
+{}
+
+/// States where a place, of the text that a request comes to, goes as runes are taken back: what is left of the text before it is the text
+/// before it then. So a range of which all goes is empty there.
+pub fn places_stay_behind_what_is_left()
+    ensures { DropsMovePlaces }
 {}

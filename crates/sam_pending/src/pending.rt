@@ -4,7 +4,7 @@ ghost use Rattle.std.specs.Prelude.{◌≡◌, ◌⊎◌, ◌<◌, ◌≤◌, �
 ghost use Rattle.sam_runes.specs.Texts.{max_runes};
 ghost use Rattle.sam_pending.specs.Cells.{PartialText, IsMade, all_put, place_at, put, rasp_of, shown_of, shown_place, waiting_of, IsNewest, resting, replaced, inserted, removed, filled, sent};
 ghost use Rattle.sam_pending.specs.Groups.{IsMadeBy, place_after_removal};
-ghost use Rattle.sam_pending.specs.Runs.{rests, has_next, edit_change, removal_changes, filling_changes};
+ghost use Rattle.sam_pending.specs.Runs.{lost_in, rests, has_next, edit_change, removal_changes, filling_changes};
 ghost use Rattle.sam_pending.specs.Layers.{cells_over, rasp_length, waiting_length, shown_length, newest_group, sent_length, sent_text, shown_members, next_edit, next_made, DropsNext, first_dropped, with_runs, IsLayer, IsOver, IsTidied, AreShort, SaysLeft, most_kept};
 ghost use Rattle.sam_runes.specs.declared.edit.Edit.{Edit};
 
@@ -273,6 +273,14 @@ impl Pending {
             → result ≡ place_after_removal group p (p + count) place (cells_over r self.now) }
     {
         places::place_after_removal(self.runs.as_slice(), group, place, p, count)
+    }
+
+    /// Returns where a place, of the text that a request of the group comes to, goes as `drop_next` takes runes back: as many to the front
+    /// as stand before it in that text and go. `DropsNext` says of what is taken back that this is so.
+    pub fn place_after_drop(&self, up_to: Option<u32>, group: u32, place: u32) -> u32
+        ensures { result ≡ place - lost_in up_to group place self.now.runs }
+    {
+        places::place_after_drop(self.runs.as_slice(), up_to, group, place)
     }
 
     /// Makes a change of the host's that was prepared, of this layer as it is now. It takes no memory.

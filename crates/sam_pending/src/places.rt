@@ -2,10 +2,10 @@
 
 ghost use Rattle.std.specs.Prelude.{◌≡◌, ◌≤◌, ◌<◌, ◌+◌, ◌-◌, ◌^◌};
 ghost use Rattle.sam_pending.specs.Blocks.{flat};
-ghost use Rattle.sam_pending.specs.Runs.{before_place, gone_in, passed, place_in, room, rooms, size, wait, waits};
+ghost use Rattle.sam_pending.specs.Runs.{before_place, gone_in, lost_in, passed, place_in, room, rooms, size, wait, waits};
 
 use crate::block::Block;
-use crate::run::Run;
+use crate::run::{Deed, Run};
 
 /// Returns the place of that text at a place of the rasp.
 #[tactic(auto, using(crate::proofs::BlockLaws::place_walk_facts))]
@@ -66,6 +66,25 @@ pub(crate) fn place_after_removal(
         }
     }
     after
+}
+
+/// Returns where a place of that text goes as the first run is taken back whose runes are due, of the groups up to a limit.
+#[tactic(auto, using(crate::proofs::BlockLaws::place_walk_facts))]
+pub(crate) fn place_after_drop(blocks: &[Block], up_to: Option<u32>, group: u32, place: u32) -> u32
+    ensures { result ≡ place - lost_in up_to group place (flat blocks.now) }
+{
+    let mut left = place;
+    for block in blocks {
+        let runs = block.runs();
+        for run in runs {
+            let passed = passed(*run, group, left);
+            if run.is_due(Deed::Inserts(up_to)) {
+                return place - passed;
+            }
+            left -= passed;
+        }
+    }
+    place
 }
 
 /// Returns how many cells of the run stand in that text before its place that is `left` further on.
