@@ -1082,9 +1082,10 @@ SAM_MUST_USE sam_status sam_overlay_put_next(sam_overlay *overlay, uint16_t tag,
 
 /* Takes back the next insertion that waits over a file, if an edit could act at once and the file has no room for this one: that is where
  * sam_overlay_put_next answers SAM_REFUSAL_TOO_LONG. Copies its runes in UTF-8, all of them, and hands out the number of bytes, and the
- * splice by which they went of the shown text: its kind is SAM_SPLICE_WENT, and its `count` 0 if a later edit had taken them out. Refused,
- * in this order, and overlay and buffer are then as they were: SAM_WAITING if splices are left; SAM_NO_ROOM if the room is less than four
- * bytes for each rune that sam_overlay_waiting counts; SAM_NONE if nothing is to be taken back; SAM_NO_MEMORY. */
+ * splice by which they went of the shown text: its kind is SAM_SPLICE_WENT, and its `count` 0 if a later edit had taken them out. They go
+ * from the text that each request of the file finds, too, and the places that it names move with that. Refused, in this order, and overlay
+ * and buffer are then as they were: SAM_WAITING if splices are left; SAM_NO_ROOM if the room is less than four bytes for each rune that
+ * sam_overlay_waiting counts; SAM_NONE if nothing is to be taken back; SAM_NO_MEMORY. */
 SAM_MUST_USE sam_status sam_overlay_drop_next(sam_overlay *overlay, uint16_t tag, sam_splice *splice, uint8_t *into, size_t room,
                                               size_t *len);
 
@@ -1674,7 +1675,7 @@ SAM_MUST_USE sam_status sam_client_ask(sam_client *client, const sam_event *even
 /* Takes back the next insertion that waits over a file, if an edit could act at once and the file has no room for this one, because the
  * host put more in meanwhile. Ask for it where the client is idle and edits wait over a free file. Copies its runes in UTF-8, all of them,
  * and hands out the number of bytes, and the splice by which they went of the shown text, as sam_overlay_drop_next does, with its
- * refusals. */
+ * refusals. Places that requests name move, as there. */
 SAM_MUST_USE sam_status sam_client_drop_next(sam_client *client, uint16_t tag, sam_splice *splice, uint8_t *into, size_t room, size_t *len);
 
 /* ---- A client: what the host's program is to do ---- */

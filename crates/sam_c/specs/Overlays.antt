@@ -17,7 +17,7 @@ use Rattle.sam_endpoint.specs.declared.fault.FinishFault.{FinishFault}
 use Rattle.sam_endpoint.specs.declared.fault.TermStop.{TermStop}
 use Rattle.sam_endpoint.specs.declared.step.BringFault.{BringFault}
 use Rattle.sam_overlay.specs.Calls.{Asks, Brings, DropsUpTo, PlainOverlay, PutsUpTo, gap_from, shown_at, waiting_at}
-use Rattle.sam_overlay.specs.Ordered.{ActsNext}
+use Rattle.sam_overlay.specs.Ordered.{ActsNext, queue_after_drop}
 use Rattle.sam_overlay.specs.Outcomes.{IsNextWaiting}
 use Rattle.sam_overlay.specs.Requests.{put_limit}
 use Rattle.sam_overlay.specs.declared.fault.AskFault.{AskFault}
@@ -288,7 +288,8 @@ HandsBack tag (Err why) old status new = (status ≡ no_memory) × (new ≡ old)
 abbrev pub TakesBack : ShownEnd → ℕ → Handed → ℕ → Handed → ShownEnd → Type 0
 TakesBack e tag old status new g =
     (result : Result (Option Dropped) PendingFault)
-    × DropsUpTo (put_limit e.ordered.queue tag) e.ordered.overlay tag result g.ordered.overlay × KeepsRequests e g
+    × DropsUpTo (put_limit e.ordered.queue tag) e.ordered.overlay tag result g.ordered.overlay
+    × (g.ordered.queue ≡ queue_after_drop e.ordered tag result) × KeepsBeside e g
     × HandsBack tag result old status new
 
 -- while splices are left all is as before, and so where the buffer has less than four bytes for each rune that waits

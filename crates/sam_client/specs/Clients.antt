@@ -18,7 +18,7 @@ use Rattle.sam_line.specs.Calls.LineCall.{Acknowledge, AddressChanged, Ask, Brok
 use Rattle.sam_line.specs.Line as lines
 use Rattle.sam_line.specs.declared.line.Line.{Line}
 use Rattle.sam_overlay.specs.Calls.{Brings, CellsGo, DropsUpTo, Keeps, KeepsTexts, PlainOverlay, PutsUpTo, cells_at, shown_at}
-use Rattle.sam_overlay.specs.Ordered.{ActsNext, IsAsked, NoneFinds, closing_group, most_waiting_requests, new_ordered, ordered_checks, queue_after, shared_with}
+use Rattle.sam_overlay.specs.Ordered.{ActsNext, IsAsked, NoneFinds, closing_group, most_waiting_requests, new_ordered, ordered_checks, queue_after, queue_after_drop, shared_with}
 use Rattle.sam_overlay.specs.Outcomes.{Leads, Replaces}
 use Rattle.sam_overlay.specs.Overlays.{StopsOnly, told_at}
 use Rattle.sam_overlay.specs.Requests.{put_limit}
@@ -92,6 +92,10 @@ StepsOver o (Err why) n = Steps o.end (Err why) n.end × Keeps o n × StopsOnly 
 abbrev pub stepped : OrderedOverlay → Result OverlayStep (EndpointFault TermStop) → PlainOverlay → OrderedOverlay
 stepped o answer p = record o { overlay = p; queue = queue_after o answer }
 
+-- the overlay after such an answer of what is taken back, with the requests that wait: the places that they name moved with their texts
+abbrev pub dropped : OrderedOverlay → ℕ → Result (Option Dropped) PendingFault → PlainOverlay → OrderedOverlay
+dropped o f answer p = record o { overlay = p; queue = queue_after_drop o f answer }
+
 -- the next runes that wait over the file, of the groups up to a limit, and have no room are taken back, and so they go from what is shown;
 -- or all is as before
 abbrev pub TakesBack : Option ℕ → PlainOverlay → ℕ → Result (Option Dropped) PendingFault → PlainOverlay → Type 0
@@ -145,7 +149,8 @@ Does c (OfLine call) n = IsAlone call × LineDoes c.line call n.line × (n ≡ w
 Does c (Replace f p q s answer) n = Edits c.ordered f p q s answer n.ordered × (n ≡ with_ordered c n.ordered)
 Does c (Request event answer) n = Asks c.ordered event answer n.ordered × (n ≡ with_ordered c n.ordered)
 Does c (TakeBack f answer) n =
-    TakesBack (put_limit c.ordered.queue f) c.ordered.overlay f answer n.ordered.overlay × (n ≡ with_overlay c n.ordered.overlay)
+    TakesBack (put_limit c.ordered.queue f) c.ordered.overlay f answer n.ordered.overlay
+    × (n ≡ with_ordered c (dropped c.ordered f answer n.ordered.overlay))
 Does c (TellRefusal oldest) n =
     (oldest ≡ slice_get c.ordered.overlay.end.refusals 0) × (n ≡ with_overlay c (told c.ordered.overlay))
 Does c (Step answer) n =

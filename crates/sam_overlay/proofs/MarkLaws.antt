@@ -11,6 +11,7 @@ use Rattle.sam_rasp.specs.Rasp.{place_after_ins}
 use Rattle.sam_pending.specs.Cells.{Cell, PartialText, drop_by, in_rasp, inserted, place_at, rasp_of, resting, stands_at, take_by, text_at}
 use Rattle.sam_pending.specs.Groups.{place_after_removal}
 use Rattle.sam_pending.specs.Layers.{Layer, IsOver, cells_over, rasp_length}
+use Rattle.sam_pending.specs.Runs.{lost_in}
 use Rattle.sam_pending.proofs.CellLaws.{members-append, take-drop-by}
 use Rattle.sam_pending.proofs.GroupLaws.{text_inserted}
 use Rattle.sam_pending.proofs.PlaceLaws.{place_resting, removal_resting}
@@ -23,7 +24,7 @@ use Rattle.sam_endpoint.specs.declared.fault.TermStop.{TermStop}
 use Rattle.sam_endpoint.specs.declared.step.TermStep.{TermStep}
 use Rattle.sam_overlay.specs.Calls.{PlainOverlay, cells_at}
 use Rattle.sam_overlay.specs.Effects.{Effect, Stays, effect, plan_at, plan_of}
-use Rattle.sam_overlay.specs.Marks.{InsertionsMovePlaces, file_marks, marked, marks_after, marks_of, moved_by, moved_place, place_after, with_marks, with_request_marks}
+use Rattle.sam_overlay.specs.Marks.{InsertionsMovePlaces, file_marks, lost_of, marked, marks_after, marks_after_drop, marks_of, moved_by, moved_by_drop, moved_place, place_after, place_after_drop, with_marks, with_request_marks}
 use Rattle.sam_overlay.specs.Ordered.{queue_after}
 use Rattle.sam_overlay.specs.Outcomes.{IsOverRasp, cells_in}
 use Rattle.sam_overlay.specs.Overlays.{AreOver, first_effect, is_received, is_request, step_effect}
@@ -336,3 +337,62 @@ quiet_goes o (Ok x) none = quiet_moves o.overlay x.step o.queue none
 quiet_goes o (Err why) none = refl
 
 pub ruleset step_facts = (received_moves, other_moves, quiet_goes)
+
+-- ## As runes are taken back
+
+-- a place of the text, and one past its end
+past-dropped : (m : Option ℕ) (g n x : ℕ) (k : Option Layer) (cs : List Cell) → n ≡ length (text_at g cs) → n < x → x ≡ place_after_drop m g k cs x
+past-dropped m g n x k cs size past =
+    let is : nat_lt (length (text_at g cs)) x ≡ true = grind (arith, nat_tests, size, past) in
+    sym (ap (λ t. cond t x (x - lost_of m g x k)) is)
+
+of-dropped : (m : Option ℕ) (g n x b : ℕ) (k : Option Layer) (cs : List Cell) → n ≡ length (text_at g cs) → x ≤ n → b ≡ x - lost_of m g x k
+    → b ≡ place_after_drop m g k cs x
+of-dropped m g n x b k cs size within moved =
+    let is : nat_lt (length (text_at g cs)) x ≡ false = grind (arith, nat_tests, size, within) in
+    moved ∙ sym (ap (λ t. cond t x (x - lost_of m g x k)) is)
+
+pub drop_past : (l : Layer) (m : Option ℕ) (g n x : ℕ) → ((r : PartialText) → IsOver r l → n ≡ length (text_at g (cells_over r l))) → n < x
+    → (r : PartialText) → IsOver r l → x ≡ place_after_drop m g (Some l) (cells_over r l) x
+drop_past l m g n x size past r over = past-dropped m g n x (Some l) (cells_over r l) (size r over) past
+
+pub drop_within : (l : Layer) (m : Option ℕ) (g n x b : ℕ) → ((r : PartialText) → IsOver r l → n ≡ length (text_at g (cells_over r l))) → x ≤ n
+    → b ≡ x - lost_in m g x l.runs → (r : PartialText) → IsOver r l → b ≡ place_after_drop m g (Some l) (cells_over r l) x
+drop_within l m g n x b size within moved r over = of-dropped m g n x b (Some l) (cells_over r l) (size r over) within moved
+
+pub ruleset pending_drop_facts = (drop_past, drop_within)
+
+-- the begin of a text stays
+pub begin_dropped : (m : Option ℕ) (g : ℕ) (k : Option Layer) (cs : List Cell) → 0 ≡ place_after_drop m g k cs 0
+begin_dropped m g k cs = go (nat_lt (length (text_at g cs)) 0)
+  where
+    go : (t : Bool) → 0 ≡ cond t 0 (0 - lost_of m g 0 k)
+    go true = refl
+    go false = omega arith
+
+-- where something waits over the file, and where nothing does
+pub pending_dropped : (o : PlainOverlay) (l : Layer) (m : Option ℕ) (f g x b : ℕ) → slot o.layers f ≡ Some l → AreOver o.end.term o.layers
+    → ((r : PartialText) → IsOver r l → b ≡ place_after_drop m g (Some l) (cells_over r l) x)
+    → b ≡ place_after_drop m g (slot o.layers f) (cells_at o f) x
+pending_dropped o l m f g x b has over made =
+    let r = rasp_at o.end.term f in
+    made r (subst (IsOverRasp r) has (over f))
+    ∙ ap (λ (k : Option Layer). place_after_drop m g k (cells_in r k) x) (sym has)
+
+pub none_dropped : (o : PlainOverlay) (m : Option ℕ) (f g x : ℕ) → slot o.layers f ≡ None → x ≡ place_after_drop m g (slot o.layers f) (cells_at o f) x
+none_dropped o m f g x none =
+    let r = rasp_at o.end.term f in
+    go (nat_lt (length (text_at g (cells_in r None))) x)
+    ∙ ap (λ (k : Option Layer). place_after_drop m g k (cells_in r k) x) (sym none)
+  where
+    go : (t : Bool) → x ≡ cond t x (x - 0)
+    go true = refl
+    go false = omega arith
+
+pub ruleset place_drop_facts = (begin_dropped, pending_dropped, none_dropped)
+
+pub dropped_moves : (o : PlainOverlay) (m : Option ℕ) (f : ℕ) (rs ks : List Request) (ms : List Marks) → ms ≡ map (marks_after_drop m o f) rs
+    → ks ≡ marked ms rs → ks ≡ map (moved_by_drop m o f) rs
+dropped_moves o m f rs ks ms made put = put ∙ (ap (λ xs. marked xs rs) made ∙ marked-map (marks_after_drop m o f) rs)
+
+pub ruleset drop_facts = (dropped_moves)

@@ -1,8 +1,11 @@
--- Places that requests name, and where they go as the host changes the texts that they come to.
-use Rattle.std.specs.Prelude.{◌≡◌, ◌≤◌, ℕ, ◌+◌, ◌-◌, ◌^◌, min, nat_lt, if◌then◌else◌, List, [], ◌∷◌, ◌++◌, length, take, drop, Option, Some, None}
+-- Places that requests name, and where they go as the host changes the texts that they come to, and as runes are taken back.
+use Rattle.std.specs.Prelude.{◌≡◌, ◌≤◌, ℕ, ◌+◌, ◌-◌, ◌^◌, ◌==◌, min, nat_lt, if◌then◌else◌, List, [], ◌∷◌, ◌++◌, length, take, drop, Option, Some, None}
+use Rattle.sam_runes.specs.Slots.{slot}
 use Rattle.sam_rasp.specs.Rasp.{place_after_ins}
 use Rattle.sam_pending.specs.Cells.{Cell, PartialText, inserted, place_at, text_at}
 use Rattle.sam_pending.specs.Groups.{place_after_removal}
+use Rattle.sam_pending.specs.Layers.{Layer}
+use Rattle.sam_pending.specs.Runs.{lost_in}
 use Rattle.sam_term.specs.Events.{file_of}
 use Rattle.sam_term.specs.declared.event.UserEvent.{UserEvent}
 use Rattle.sam_term.specs.declared.event.UserEvent.TheVariants as event
@@ -64,6 +67,31 @@ abbrev pub marked : List Marks → List Request → List Request
 marked [] rs = rs
 marked (m ∷ ms) [] = []
 marked (m ∷ ms) (r ∷ rs) = with_request_marks m r ∷ marked ms rs
+
+-- ## As runes are taken back
+
+-- of the first x members of the text that a request of group g comes to, how many go as the next runes are taken back of what waits over the
+-- file, of the groups up to a limit
+abbrev pub lost_of : Option ℕ → ℕ → ℕ → Option Layer → ℕ
+lost_of m g x None = 0
+lost_of m g x (Some l) = lost_in m g x l.runs
+
+-- where place x goes that such a request names: as many to the front as go before it. Past the end of that text no place moves
+abbrev pub place_after_drop : Option ℕ → ℕ → Option Layer → List Cell → ℕ → ℕ
+place_after_drop m g waits cs x = if nat_lt (length (text_at g cs)) x then x else x - lost_of m g x waits
+
+-- where the places of a request go as runes that wait over file f are taken back, if that is the file that it names
+abbrev pub file_marks_after_drop : Option ℕ → PlainOverlay → ℕ → Request → Option ℕ → Marks
+file_marks_after_drop m o f r None = marks_of r.event
+file_marks_after_drop m o f r (Some h) =
+    let after = place_after_drop m r.group (slot o.layers f) (cells_at o f) in
+    if h == f then record { p = after (marks_of r.event).p; q = after (marks_of r.event).q } else marks_of r.event
+
+abbrev pub marks_after_drop : Option ℕ → PlainOverlay → ℕ → Request → Marks
+marks_after_drop m o f r = file_marks_after_drop m o f r (file_of r.event)
+
+abbrev pub moved_by_drop : Option ℕ → PlainOverlay → ℕ → Request → Request
+moved_by_drop m o f r = with_request_marks (marks_after_drop m o f r) r
 
 -- ## The law
 

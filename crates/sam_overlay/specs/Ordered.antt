@@ -3,16 +3,18 @@ use Rattle.std.specs.Prelude.{◌≡◌, ◌^◌, ◌-◌, ℕ, max, List, [], �
 use Rattle.sam_runes.specs.Checks.{Checks}
 use Rattle.sam_runes.specs.Slots.{slot}
 use Rattle.sam_pending.specs.Cells.{Cell, text_at}
+use Rattle.sam_pending.specs.declared.fault.PendingFault.{PendingFault}
+use Rattle.sam_pending.specs.declared.told.Dropped.{Dropped}
 use Rattle.sam_term.specs.declared.event.UserEvent.{UserEvent}
 use Rattle.sam_term.specs.declared.event.UserEvent.TheVariants as event
 use Rattle.sam_endpoint.specs.TermStepping.{BringsEvent}
 use Rattle.sam_endpoint.specs.declared.fault.EndpointFault.{EndpointFault}
 use Rattle.sam_endpoint.specs.declared.fault.TermStop.{TermStop}
 use Rattle.sam_overlay.specs.Calls.{CanAct, FindsText, Keeps, cells_at, new_overlay, replace_checks, shown_at}
-use Rattle.sam_overlay.specs.Marks.{moved_by}
+use Rattle.sam_overlay.specs.Marks.{moved_by, moved_by_drop}
 use Rattle.sam_overlay.specs.Outcomes.{newest_in, newest_over}
 use Rattle.sam_overlay.specs.Overlays.{step_effect}
-use Rattle.sam_overlay.specs.Requests.{is_closing, is_leaving, next_group, shared_write}
+use Rattle.sam_overlay.specs.Requests.{is_closing, is_leaving, next_group, put_limit, shared_write}
 use Rattle.sam_overlay.specs.declared.fault.ReplaceFault.{ReplaceFault}
 use Rattle.sam_overlay.specs.declared.fault.ReplaceFault.TheVariants as refuses
 use Rattle.sam_overlay.specs.declared.fault.PutFault.{PutFault}
@@ -109,3 +111,11 @@ ActsNext o (Err unput.OutOfMemory) n = n ≡ o
 abbrev pub queue_after : OrderedOverlay → Result OverlayStep (EndpointFault TermStop) → List Request
 queue_after o (Ok x) = map (moved_by o.overlay (step_effect o.overlay.end x.step)) o.queue
 queue_after o (Err why) = o.queue
+
+-- ## Runes that are taken back
+
+-- the requests after runes that wait over file f are taken back, if some are: the places move that those of the file name
+abbrev pub queue_after_drop : OrderedOverlay → ℕ → Result (Option Dropped) PendingFault → List Request
+queue_after_drop o f (Ok None) = o.queue
+queue_after_drop o f (Ok (Some d)) = map (moved_by_drop (put_limit o.queue f) o.overlay f) o.queue
+queue_after_drop o f (Err why) = o.queue

@@ -1,10 +1,10 @@
 //! Places that requests name, and where they go as the host changes the texts that they come to.
 
-ghost use Rattle.std.specs.Prelude.{◌≡◌, ◌^◌, ◌-◌, ℕ, length, min};
+ghost use Rattle.std.specs.Prelude.{◌≡◌, ◌^◌, ◌-◌, ℕ, Some, length, min};
 ghost use Rattle.sam_rasp.specs.Rasp.{place_after_ins};
 ghost use Rattle.sam_pending.specs.Cells.{PartialText, resting, text_at};
 ghost use Rattle.sam_pending.specs.Layers.{IsOver, cells_over};
-ghost use Rattle.sam_overlay.specs.Marks.{marks_of, moved_place, place_after, with_marks};
+ghost use Rattle.sam_overlay.specs.Marks.{marks_of, moved_place, place_after, place_after_drop, with_marks};
 
 use crate::frame_plan::Plan;
 use sam_pending::Pending;
@@ -78,6 +78,18 @@ fn moved_in_pending(pending: &Pending, group: u32, plan: Plan, place: u32) -> u3
         Plan::Inserts(p, count) => behind(pending.place_at(group, p), count, place),
         Plan::Removes(p, count) => pending.place_after_removal(group, place, p, count),
     }
+}
+
+/// Returns where a place that a request of the group names goes as the next runes are taken back, of the groups up to a limit.
+#[tactic(auto, using(crate::proofs::MarkLaws::pending_drop_facts))]
+pub(crate) fn place_after_drop(pending: &Pending, up_to: Option<u32>, group: u32, place: u32) -> u32
+    ensures { (r : PartialText) → IsOver r pending.now
+        → result ≡ place_after_drop up_to group (Some pending.now) (cells_over r pending.now) place }
+{
+    if text_len(pending, group) < place {
+        return place;
+    }
+    pending.place_after_drop(up_to, group, place)
 }
 
 /// Returns where a place that a request names goes by such a change of a rasp of `len` members, where nothing waits.

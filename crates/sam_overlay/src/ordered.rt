@@ -5,7 +5,7 @@ ghost use Rattle.sam_runes.specs.Checks.{first_of_checks};
 ghost use Rattle.sam_pending.specs.Cells.{IsTakenBack};
 ghost use Rattle.sam_endpoint.specs.TermStepping.{Steps};
 ghost use Rattle.sam_overlay.specs.Calls.{Asks, Brings, CellsGo, DropsUpTo, Keeps, KeepsTexts, PutsUpTo, cells_at, shown_at};
-ghost use Rattle.sam_overlay.specs.Ordered.{ActsNext, IsAsked, NoneFinds, closing_group, most_waiting_requests, new_ordered, ordered_checks, queue_after, shared_with};
+ghost use Rattle.sam_overlay.specs.Ordered.{ActsNext, IsAsked, NoneFinds, closing_group, most_waiting_requests, new_ordered, ordered_checks, queue_after, queue_after_drop, shared_with};
 ghost use Rattle.sam_overlay.specs.Outcomes.{Leads, Replaces};
 ghost use Rattle.sam_overlay.specs.Overlays.{StopsOnly, end_step, is_request, told_at};
 ghost use Rattle.sam_overlay.specs.Requests.{is_closing, put_limit};
@@ -203,17 +203,26 @@ impl OrderedOverlay {
     }
 
     /// Takes back runes for which the host left no room, as `Overlay::drop_next` does, but none that stand behind a request which concerns
-    /// the file. Places that requests name stay.
+    /// the file. They go from the text of the file that each request comes to, and the places that requests name move with it: those behind
+    /// what goes move, and those in it go to where it began.
     ///
     /// The only error is `OutOfMemory`; after it all is as before.
+    #[tactic(auto, using(crate::proofs::MarkLaws::drop_facts))]
     pub fn drop_next(&mut self, tag: u16) -> Result<Option<Dropped>, PendingFault>
         ensures drops { DropsUpTo (put_limit self.old.queue tag) self.old.overlay tag result self.new.overlay }
         ensures cells { IfOk result (λ x. IfSome x (λ d.
             IsTakenBack (cells_at self.old.overlay tag) d.place d.count d.text (cells_at self.new.overlay tag))) }
-        ensures queue { self.new.queue ≡ self.old.queue }
+        ensures queue { self.new.queue ≡ queue_after_drop self.old tag result }
     {
         let limit = self.queue.limit(tag);
-        self.overlay.drop_up_to(tag, limit)
+        let marks = self
+            .queue
+            .marks_after_drop(self.alloc, &self.overlay, tag, limit)?;
+        let Some(dropped) = self.overlay.drop_up_to(tag, limit)? else {
+            return Ok(None);
+        };
+        self.queue.put_marks(marks.as_slice());
+        Ok(Some(dropped))
     }
 
     /// Goes on by one step, as `Overlay::step` does. An edit that was put changes no text that a request behind it comes to. A change of

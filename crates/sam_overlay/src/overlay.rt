@@ -12,14 +12,14 @@ ghost use Rattle.sam_endpoint.specs.TermStepping.{Steps};
 ghost use Rattle.sam_overlay.specs.Calls.{Asks, Brings, CanAct, CellsGo, FindsText, IsIdle, IsReady, KeepsTexts, Drops, DropsUpTo, IsFree, IsNotNow, Keeps, is_free, Puts, PutsUpTo, IsShownFrom, cells_at, gap_from, gap_in, has_edit_at, new_overlay, replace_checks, shown_at, waiting_at};
 ghost use Rattle.sam_overlay.specs.Outcomes.{IsNextKept, IsNextWaiting, Leads, Replaces, ReplacesFrom, newest_in, newest_over};
 ghost use Rattle.sam_overlay.specs.Effects.{plan_of};
-ghost use Rattle.sam_overlay.specs.Marks.{place_after};
+ghost use Rattle.sam_overlay.specs.Marks.{place_after, place_after_drop};
 ghost use Rattle.sam_overlay.specs.Overlays.{StopsOnly, end_step, first_effect, is_request, told_at};
 ghost use Rattle.sam_term.specs.Term.{is_known, is_open, rasp_at};
 
 use crate::fault::{PutFault, ReplaceFault};
 use crate::frame_plan::FilePlan;
 use crate::layers::{Layers, Place};
-use crate::marks::{place_in_pending, place_in_rasp};
+use crate::marks::{place_after_drop, place_in_pending, place_in_rasp};
 use crate::request::concerns;
 use crate::shown_change::{OverlayStep, Put};
 use crate::steps::{quiet, step_edit, step_over};
@@ -371,6 +371,26 @@ impl Overlay {
         match self.layers.at(tag) {
             Some(pending) => place_in_pending(pending, group, file.plan, place),
             None => place_in_rasp(rasp_len(self.end.term(), tag), file.plan, place),
+        }
+    }
+
+    /// Returns where a place, of the text of a file that a request of the group comes to, goes as `drop_up_to` takes runes back.
+    #[tactic(auto, using(crate::proofs::MarkLaws::place_drop_facts))]
+    pub(crate) fn place_after_drop(
+        &self,
+        tag: u16,
+        up_to: Option<u32>,
+        group: u32,
+        place: u32,
+    ) -> u32
+        ensures { result ≡ place_after_drop up_to group (slot self.now.layers tag) (cells_at self.now tag) place }
+    {
+        if place == 0 {
+            return 0;
+        }
+        match self.layers.at(tag) {
+            Some(pending) => place_after_drop(pending, up_to, group, place),
+            None => place,
         }
     }
 

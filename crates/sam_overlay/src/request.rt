@@ -1,7 +1,7 @@
 //! Requests of the user that wait, and which edits stand before them.
 
 ghost use Rattle.std.specs.Prelude.{◌≡◌, ◌++◌, ◌<◌, ◌+◌, ◌^◌, ◌∷◌, [], IfOk, IfSome, IsTrue, None, OnErr, OnOk, Some, if◌then◌else◌, true, drop, length, map, option_copied, slice_get};
-ghost use Rattle.sam_overlay.specs.Marks.{marked, marks_after};
+ghost use Rattle.sam_overlay.specs.Marks.{marked, marks_after, marks_after_drop};
 ghost use Rattle.sam_overlay.specs.Overlays.{first_effect, is_request};
 ghost use Rattle.sam_overlay.specs.Requests.{AreAsked, closes, concerns, is_closing, is_leaving, leaves, next_group, put_limit, serves, shared_write, writes};
 ghost use Rattle.sam_term.specs.Events.{file_of, waits_for_all};
@@ -121,6 +121,20 @@ impl RequestQueue {
         marks_after(alloc, self.waiting.as_slice(), overlay)
     }
 
+    /// Returns where the places of each request go as runes that wait over a file are taken back, of the groups up to a limit. The only
+    /// error is out of memory.
+    pub fn marks_after_drop(
+        &self,
+        alloc: Global,
+        overlay: &Overlay,
+        tag: u16,
+        up_to: Option<u32>,
+    ) -> Result<Vec<Marks>, AllocError>
+        ensures { IfOk result (λ marks. marks.items ≡ map (marks_after_drop up_to overlay.now tag) self.now) }
+    {
+        marks_after_drop(alloc, self.waiting.as_slice(), overlay, tag, up_to)
+    }
+
     /// Puts other places into the requests, one after another.
     #[tactic(auto, using(crate::proofs::MarkLaws::put_facts))]
     pub fn put_marks(&mut self, marks: &[Marks])
@@ -168,6 +182,46 @@ fn request_marks(overlay: &Overlay, request: &Request) -> Marks
             p: overlay.place_after(tag, request.group, marks.p),
             q: overlay.place_after(tag, request.group, marks.q),
         },
+    }
+}
+
+/// Returns where the places of each request go as runes that wait over a file are taken back, of the groups up to a limit. The only error
+/// is out of memory.
+fn marks_after_drop(
+    alloc: Global,
+    requests: &[Request],
+    overlay: &Overlay,
+    tag: u16,
+    up_to: Option<u32>,
+) -> Result<Vec<Marks>, AllocError>
+    ensures { IfOk result (λ marks. marks.items ≡ map (marks_after_drop up_to overlay.now tag) requests.now) }
+{
+    let mut marks = Vec::new(alloc);
+    for request in requests {
+        marks.push(request_marks_after_drop(overlay, request, tag, up_to))?;
+    }
+    Ok(marks)
+}
+
+/// Returns where the places of a request go as runes that wait over a file are taken back, of the groups up to a limit.
+fn request_marks_after_drop(
+    overlay: &Overlay,
+    request: &Request,
+    tag: u16,
+    up_to: Option<u32>,
+) -> Marks
+    ensures { result ≡ marks_after_drop up_to overlay.now tag request.now }
+{
+    let marks = marks_of(&request.event);
+    let Some(file) = file_of(&request.event) else {
+        return marks;
+    };
+    if file != tag {
+        return marks;
+    }
+    Marks {
+        p: overlay.place_after_drop(tag, up_to, request.group, marks.p),
+        q: overlay.place_after_drop(tag, up_to, request.group, marks.q),
     }
 }
 

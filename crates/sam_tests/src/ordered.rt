@@ -1,5 +1,7 @@
 //! Requests in one order with the edits, before a host whose answers come when a test says so: what a write saves, what a close refuses.
 use sam_endpoint::{HostEndpoint, TermStep};
+use sam_frame::encode_all;
+use sam_mesg::{HFrame, Hmesg};
 use sam_overlay::{
     AskFault, Asked, MOST_WAITING_REQUESTS, OrderedOverlay, Put, ReplaceFault, Turn, is_request,
 };
@@ -61,8 +63,12 @@ enum Step<'a> {
     Put(u16, Put),
     /// The next edit of a file is put, and does not act yet.
     PutAlone(u16),
+    /// A frame of the host's brings so many gaps into a file, at a place.
+    Grow(u16, u32, u32),
     /// No runes of a file are taken back, since there is room for them.
     NothingToDrop(u16),
+    /// So many runes are taken back, which stood at this place of what is shown.
+    Drop(u16, u32, usize),
     /// A request that acted was refused for this reason.
     WasRefused(Refusal),
     /// How many members are shown of a file.
@@ -144,6 +150,21 @@ fn act(front: &mut OrderedOverlay, turn: Turn) -> bool {
     front.act_next() == Ok(turn) && go_on(front)
 }
 
+fn grow(alloc: Global, front: &mut OrderedOverlay, msg: Hmesg) -> bool {
+    let seen = front.overlay().end().seen();
+    let mut bytes = Vec::new(alloc);
+    encode_all(&[HFrame { seen, msg }], &mut bytes).is_ok()
+        && front.bring(bytes.as_slice()).is_ok()
+        && go_on(front)
+}
+
+fn takes_back(front: &mut OrderedOverlay, tag: u16, place: u32, count: usize) -> bool {
+    match front.drop_next(tag) {
+        Ok(Some(dropped)) => dropped.place == place && dropped.text.len() == count,
+        _ => false,
+    }
+}
+
 fn saved(host: &HostEndpoint, tag: u16) -> Option<usize> {
     let file = host.host().files().file(tag)?;
     let runes = file.saved()?;
@@ -161,6 +182,13 @@ fn is_right(sides: &mut Sides, step: Step<'_>) -> bool {
             ask(sides, wish).is_ok() && act(&mut sides.front, Turn::Request) && carry(sides)
         }
         Step::Travel => carry(sides),
+        Step::Grow(tag, place, count) => {
+            grow(
+                sides.alloc,
+                &mut sides.front,
+                Hmesg::Hgrow(tag, place, count),
+            )
+        }
         Step::Saved(tag, count) => saved(&sides.host, tag) == Some(count),
         _ => is_right_in_front(&mut sides.front, step),
     }
@@ -176,6 +204,7 @@ fn is_right_in_front(front: &mut OrderedOverlay, step: Step<'_>) -> bool {
         Step::Put(tag, answer) => front.put_next(tag) == Ok(answer) && go_on(front),
         Step::PutAlone(tag) => front.put_next(tag) == Ok(Put::Edit),
         Step::NothingToDrop(tag) => matches!(front.drop_next(tag), Ok(None)),
+        Step::Drop(tag, place, count) => takes_back(front, tag, place, count),
         Step::WasRefused(why) => match front.next_refusal() {
             Some((_, refusal)) => refusal == why,
             None => false,
@@ -388,6 +417,26 @@ const PLACE_IN_A_TEXT_TO_COME: [Step<'_>; 8] = [
     Step::Dot(1, 1, 4),
 ];
 
+/// Of `hello` the user makes `heXYllo`, selects `Yl`, then `lo`, and then, of another file, `ain`. The host makes the text full, and `XY` is
+/// taken back: of the first range `l` is left, the second one still is `lo`, and the third one stays.
+const RANGES_BEHIND_WHAT_IS_TAKEN_BACK: [Step<'_>; 15] = [
+    Step::Do(Wish::Version),
+    Step::Do(Wish::Open(1)),
+    Step::Do(Wish::Open(2)),
+    Step::Replace(1, 2, 2, &['X', 'Y']),
+    Step::Ask(Wish::Select(1, 3, 5)),
+    Step::Ask(Wish::Select(1, 5, 7)),
+    Step::Ask(Wish::Select(2, 2, 5)),
+    Step::Grow(1, 5, 999_995),
+    Step::Drop(1, 2, 2),
+    Step::Act(Turn::Request),
+    Step::Dot(1, 2, 3),
+    Step::Act(Turn::Request),
+    Step::Dot(1, 3, 5),
+    Step::Act(Turn::Request),
+    Step::Dot(2, 2, 5),
+];
+
 /// So many requests wait and not one more, and none is taken in while an edit has to act. A write that shares one is still taken.
 const TOO_MANY: [Step<'_>; 11] = [
     Step::Do(Wish::Version),
@@ -415,6 +464,7 @@ fn requests_act_behind_edits(rt: HostRuntime) {
         PLACE_BEHIND_AN_INSERTION.as_slice(),
         RANGE_THAT_GOES.as_slice(),
         PLACE_IN_A_TEXT_TO_COME.as_slice(),
+        RANGES_BEHIND_WHAT_IS_TAKEN_BACK.as_slice(),
         TOO_MANY.as_slice(),
     ] {
         let wrong = match sides_of(rt.alloc()) {
