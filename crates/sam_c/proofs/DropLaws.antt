@@ -5,7 +5,7 @@ use Rattle.std.proofs.Math.Seq.{take-length}
 use Rattle.sam_runes.proofs.Codes.{counted-front}
 use Rattle.sam_runes.specs.declared.edit.Edit.{Edit}
 use Rattle.sam_mesg.proofs.Texts.{length-text}
-use Rattle.sam_pending.specs.Layers.{Layer, DropsNext, waiting_length}
+use Rattle.sam_pending.specs.Layers.{Layer, DropsNext, runs_of, waiting_length}
 use Rattle.sam_pending.specs.Runs.{edit_at, first_due, is_due, next_deed, room, wait, waits}
 use Rattle.sam_pending.specs.declared.fault.PendingFault.{PendingFault}
 use Rattle.sam_pending.specs.declared.run.Deed.{Deed}
@@ -60,16 +60,16 @@ due-waits w (y ∷ xs) n z f = step (is_due w y) f (due-waits w xs (n + room y) 
     step false g next = omega (arith, next g)
 
 dropped-waits : (m : Option ℕ) (l : Layer) (d : Dropped) → DropsNext m l d → length d.text ≤ waiting_length l
-dropped-waits m l d drops = go (first_due (next_deed m l.runs) 0 l.runs) refl drops.next
+dropped-waits m l d drops = go (first_due (next_deed m (runs_of l)) 0 (runs_of l)) refl drops.next
   where
-    go : (o : Option (Run × ℕ)) → first_due (next_deed m l.runs) 0 l.runs ≡ o
+    go : (o : Option (Run × ℕ)) → first_due (next_deed m (runs_of l)) 0 (runs_of l) ≡ o
         → option_map (λ (e : Edit). e.text) (option_map (λ (z : Run × ℕ). edit_at l.text z.1 z.0) o) ≡ Some d.text
         → length d.text ≤ waiting_length l
     go None is text = absurd cc
     go (Some z) is text =
         let same : (edit_at l.text z.1 z.0).text ≡ d.text = cc in
         subst (λ s. length s ≤ waiting_length l) same
-        (omega (arith, text-waits l.text z.1 z.0, due-waits (next_deed m l.runs) l.runs 0 z is))
+        (omega (arith, text-waits l.text z.1 z.0, due-waits (next_deed m (runs_of l)) (runs_of l) 0 z is))
 
 -- so a buffer has room for it that has four bytes for each rune that waits
 back_fits : (m : Option ℕ) (o n : PlainOverlay) (f : ℕ) (d : Dropped) → DropsUpTo m o f (Ok (Some d)) n → length d.text ≤ waiting_at o f

@@ -7,7 +7,7 @@ use Rattle.sam_runes.specs.Slots.{Slots, slot}
 use Rattle.sam_runes.specs.Texts.{max_runes}
 use Rattle.sam_runes.specs.declared.edit.Edit.{Edit}
 use Rattle.sam_pending.specs.Cells.{PartialText, Cell, IsNewest, IsUpTo, IsTakenBack, in_rasp, rasp_of, replaced, resting, shown_of}
-use Rattle.sam_pending.specs.Layers.{Layer, IsOver, cells_over, first_dropped, next_edit, next_made, rasp_length, shown_length, shown_members}
+use Rattle.sam_pending.specs.Layers.{Layer, IsOver, cells_over, first_dropped, next_edit, next_made, rasp_length, runs_of, shown_length, shown_members}
 use Rattle.sam_pending.specs.Runs.{cells_of, edit_at, held, runes_of, typed_by, first_due, is_due, made_first, made_run, next_deed, rests, room, rooms}
 use Rattle.sam_pending.specs.declared.run.Deed.{Deed}
 use Rattle.sam_pending.specs.declared.run.Run.{Run}
@@ -16,6 +16,7 @@ use Rattle.sam_pending.specs.declared.told.Dropped.{Dropped}
 use Rattle.sam_pending.specs.declared.told.Shown.{Shown}
 use Rattle.sam_pending.proofs.CellLaws.{members-append, rasp_resting, shown_resting, shown_replaced, rasp_replaced}
 use Rattle.sam_pending.proofs.DueLaws.{made_texts}
+use Rattle.sam_pending.proofs.FirstLaws.{flat_made}
 use Rattle.sam_pending.proofs.LayerLaws.{all-rest}
 use Rattle.sam_term.specs.Term.{PlainTerminal, event_checks, is_open, rasp_at, window_of}
 use Rattle.sam_term.specs.declared.event.UserEvent.{UserEvent}
@@ -26,10 +27,12 @@ use Rattle.sam_endpoint.specs.declared.fault.TermStop.{TermStop}
 use Rattle.sam_endpoint.specs.declared.step.BringFault.{BringFault}
 use Rattle.sam_endpoint.specs.declared.step.BringFault.TheVariants as bring
 use Rattle.sam_endpoint.specs.declared.step.TermStep.{TermStep}
-use Rattle.sam_overlay.specs.Calls.{HoldsOnly, IsFree, IsShownFrom, IsSound, RestsShow, is_free}
+use Rattle.sam_overlay.specs.Calls.{HoldsOnly, IsFree, IsShownFrom, IsSound, PlainOverlay, PutsUpTo, RestsShow, is_free}
 use Rattle.sam_overlay.specs.Outcomes.{IsOverRasp, LayerDrops, LayerReplaces, Leads, Replaces, ReplacesFrom, TypedShows, cells_in, has_edit}
 use Rattle.sam_overlay.specs.Overlays.{AreOver, AreRequests, Brought, cells_of_file, edit_event, is_request, told_at}
 use Rattle.sam_overlay.specs.Setting.{Sets}
+use Rattle.sam_overlay.specs.declared.fault.PutFault.{PutFault}
+use Rattle.sam_overlay.specs.declared.fault.PutFault.TheVariants as unput
 use Rattle.sam_overlay.specs.declared.layers.Place.{Place}
 use Rattle.sam_overlay.specs.declared.shown_change.OverlayStep.{OverlayStep}
 use Rattle.sam_overlay.specs.declared.shown_change.Told.TheVariants as told
@@ -156,19 +159,20 @@ record Fits (m : Option ℕ) (l : Layer) (e : Edit) : Type 0 where
   room : rasp_length l - (e.q - e.p) + length e.text ≤ rasp_length (next_made m l)
 
 next-fits : (m : Option ℕ) (l : Layer) (e : Edit) → next_edit m l ≡ Some e → Fits m l e
-next-fits m l e is = go (first_due (next_deed m l.runs) 0 l.runs) refl is
+next-fits m l e is = go (first_due (next_deed m (runs_of l)) 0 (runs_of l)) refl is
   where
-    go : (o : Option (Run × ℕ)) → first_due (next_deed m l.runs) 0 l.runs ≡ o → option_map (λ x. edit_at l.text x.1 x.0) o ≡ Some e → Fits m l e
+    go : (o : Option (Run × ℕ)) → first_due (next_deed m (runs_of l)) 0 (runs_of l) ≡ o → option_map (λ x. edit_at l.text x.1 x.0) o ≡ Some e → Fits m l e
     go None due q = absurd cc
     go (Some x) due q =
         let same : edit_at l.text x.1 x.0 ≡ e = grind (arith, q) in
-        let d = made-rooms (next_deed m l.runs) l.runs 0 x.0 x.1 due in
+        let d = made-rooms (next_deed m (runs_of l)) (runs_of l) 0 x.0 x.1 due in
+        let made : rasp_length (next_made m l) ≡ rooms (made_first (next_deed m (runs_of l)) (runs_of l)) = ap rooms (flat_made (next_deed m (runs_of l)) l.blocks) in
         let s = edit-size l.text x.1 x.0 in
         subst (Fits m l) same
         (record {
           up = s.0;
           within = omega (arith, s.1, d.1);
-          room = omega (arith, s.2, s.3, d.0, d.1);
+          room = omega (arith, s.2, s.3, d.0, d.1, made);
         })
 
 -- a free file takes the next edit of what waits over it
@@ -227,7 +231,7 @@ rasp_of_file t ls f over = go (slot ls f) (over f)
   where
     go : (o : Option Layer) → IsOverRasp (rasp_at t f) o → rasp_of (cells_in (rasp_at t f) o) ≡ rasp_at t f
     go None h = rasp_resting (rasp_at t f)
-    go (Some l) h = rasp-runs l.text (rasp_at t f) l.runs h
+    go (Some l) h = rasp-runs l.text (rasp_at t f) (runs_of l) h
 
 -- ## What is read
 
@@ -307,7 +311,7 @@ rests_cells t ls f over none = go (slot ls f) (over f) none
   where
     go : (o : Option Layer) → IsOverRasp (rasp_at t f) o → has_edit o ≡ false → cells_in (rasp_at t f) o ≡ resting (rasp_at t f)
     go None h is = refl
-    go (Some l) h is = all-rest l.runs l.text (rasp_at t f) (at-rest (rests l.runs) is) h
+    go (Some l) h is = all-rest (runs_of l) l.text (rasp_at t f) (at-rest (rests (runs_of l)) is) h
 
 -- ## Runes that are taken back
 
@@ -352,6 +356,12 @@ dropped_cells t ls ks f u d over drops =
     (drops.1.2.cells r (subst (IsOverRasp r) drops.1.1 (over f))))
 
 pub ruleset drop_facts = (dropped_sound, dropped_cells)
+
+-- why the next edit isn't put
+pub put_refused : (m : Option ℕ) (o : PlainOverlay) (f : ℕ) (l : Layer) (why : PutFault) → slot o.layers f ≡ Some l
+    → ((why ≡ unput.TooLong) × (max_runes < rasp_length (next_made m l))) ⊎ (why ≡ unput.OutOfMemory) → PutsUpTo m o f (Err why) o
+put_refused m o f l why is (inl t) = subst (λ w. PutsUpTo m o f (Err w) o) (sym t.0) (l, is, t.1, refl)
+put_refused m o f l why is (inr t) = subst (λ w. PutsUpTo m o f (Err w) o) (sym t) refl
 
 pub ruleset put_facts = (put_sound, command_freed)
 

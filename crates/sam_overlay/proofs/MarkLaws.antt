@@ -10,7 +10,7 @@ use Rattle.sam_mesg.specs.declared.hmesg.HFrame.{HFrame}
 use Rattle.sam_rasp.specs.Rasp.{place_after_ins}
 use Rattle.sam_pending.specs.Cells.{Cell, PartialText, drop_by, in_rasp, inserted, place_at, rasp_of, resting, stands_at, take_by, text_at}
 use Rattle.sam_pending.specs.Groups.{place_after_removal}
-use Rattle.sam_pending.specs.Layers.{Layer, IsOver, cells_over, rasp_length}
+use Rattle.sam_pending.specs.Layers.{Layer, IsOver, cells_over, rasp_length, runs_of}
 use Rattle.sam_pending.specs.Runs.{lost_in}
 use Rattle.sam_pending.proofs.CellLaws.{members-append, take-drop-by}
 use Rattle.sam_pending.proofs.GroupLaws.{text_inserted}
@@ -83,7 +83,7 @@ length_of_text l g n k len at r over =
     let past : n + 1 ≡ suc n = omega arith in
     at r over
     ∙ (ap (λ m. place_at g m (cells_over r l)) past
-    ∙ ap (λ cs. length (text_at g cs)) (take-whole n (cells_over r l) (omega (arith, len, over, ap length (rasp-runs l.text r l.runs over)))))
+    ∙ ap (λ cs. length (text_at g cs)) (take-whole n (cells_over r l) (omega (arith, len, over, ap length (rasp-runs l.text r (runs_of l) over)))))
 
 pub ruleset length_facts = (length_of_text)
 
@@ -357,7 +357,7 @@ pub drop_past : (l : Layer) (m : Option ℕ) (g n x : ℕ) → ((r : PartialText
 drop_past l m g n x size past r over = past-dropped m g n x (Some l) (cells_over r l) (size r over) past
 
 pub drop_within : (l : Layer) (m : Option ℕ) (g n x b : ℕ) → ((r : PartialText) → IsOver r l → n ≡ length (text_at g (cells_over r l))) → x ≤ n
-    → b ≡ x - lost_in m g x l.runs → (r : PartialText) → IsOver r l → b ≡ place_after_drop m g (Some l) (cells_over r l) x
+    → b ≡ x - lost_in m g x (runs_of l) → (r : PartialText) → IsOver r l → b ≡ place_after_drop m g (Some l) (cells_over r l) x
 drop_within l m g n x b size within moved r over = of-dropped m g n x b (Some l) (cells_over r l) (size r over) within moved
 
 pub ruleset pending_drop_facts = (drop_past, drop_within)

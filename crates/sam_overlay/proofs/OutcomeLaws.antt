@@ -3,10 +3,10 @@ use Rattle.std.proofs.Common.{Option, ◌≡◌, refl, sym, ap, ◌∙◌, subst
 use Rattle.std.proofs.lemmas.List.{length-map}
 use Rattle.std.specs.Global.{Vec}
 use Rattle.sam_runes.specs.Texts.{max_runes}
+use Rattle.sam_pending.specs.Blocks.{BlockChange}
 use Rattle.sam_pending.specs.Cells.{PartialText, Cell, all_put, arrived, drop_by, filled, in_rasp, inserted, loaded, removed, resting, shown_of, shown_place, take_by, waiting_of}
-use Rattle.sam_pending.specs.Layers.{Layer, IsLayer, IsOver, cells_over, rasp_length, with_runs}
+use Rattle.sam_pending.specs.Layers.{Layer, IsOver, IsPrepared, cells_over, rasp_length, with_change}
 use Rattle.sam_pending.specs.Runs.{filling_changes, removal_changes}
-use Rattle.sam_pending.specs.declared.run.Run.{Run}
 use Rattle.sam_pending.proofs.RunLaws.{drop-more, take-whole}
 use Rattle.sam_pending.proofs.CellLaws.{shown_resting, rasp_inserted, rasp_removed, rasp_filled, shown_inserted, waiting_inserted, waiting_filled, waiting_removed}
 use Rattle.sam_pending.specs.declared.told.Filling.{Filling}
@@ -98,7 +98,7 @@ leads-same x a b c d e f l = subst (λ y. Leads x y c) (sym e) (subst (λ y. Lea
 pub rasp_follows : (p : Plan) (x : Told) → TellsRasp p x → Follows None p (record { told = x; change = change.Stays })
 rasp_follows p x tells =
     record {
-      kept = λ l runs is. absurd cc;
+      kept = λ l made is. absurd cc;
       over = λ r e m. tt;
       cells = λ r e m. sym (rests_after e r m.fit);
       told = λ r e m.
@@ -155,26 +155,26 @@ tells_inserted p n r e m =
 
 -- ## Where something waits
 
-layer-is : (l k : Layer) → Some l ≡ Some k → l ≡ k
+pub layer-is : (l k : Layer) → Some l ≡ Some k → l ≡ k
 layer-is l k e = ap (λ o. unwrap_or o l) e
 
-abbrev runs-or : List Run → LayerChange → List Run
-runs-or xs change.Stays = xs
-runs-or xs (change.Runs runs) = runs
-runs-or xs change.Ends = xs
+abbrev made-or : BlockChange → LayerChange → BlockChange
+made-or xs change.Stays = xs
+made-or xs (change.Runs made) = made
+made-or xs change.Ends = xs
 
-runs-are : (xs ys : List Run) → change.Runs xs ≡ change.Runs ys → xs ≡ ys
-runs-are xs ys e = ap (runs-or xs) e
+made-are : (xs ys : BlockChange) → change.Runs xs ≡ change.Runs ys → xs ≡ ys
+made-are xs ys e = ap (made-or xs) e
 
-keeps-layer : (l k : Layer) (xs ys : List Run) → IsLayer (with_runs l xs) → Some l ≡ Some k → change.Runs xs ≡ change.Runs ys → IsLayer (with_runs k ys)
-keeps-layer l k xs ys h e f = subst (λ z. IsLayer (with_runs z ys)) (layer-is l k e) (subst (λ zs. IsLayer (with_runs l zs)) (runs-are xs ys f) h)
+keeps-layer : (l k : Layer) (xs ys : BlockChange) → IsPrepared l xs → Some l ≡ Some k → change.Runs xs ≡ change.Runs ys → IsPrepared k ys
+keeps-layer l k xs ys h e f = subst (λ z. IsPrepared z ys) (layer-is l k e) (subst (λ zs. IsPrepared l zs) (made-are xs ys f) h)
 
 -- a change that fits no rasp
 pub unfit_follows : (o : Option Layer) (p : Plan) → ((r : PartialText) (e : Effect) → Meets o p r e → ⊥)
     → Follows o p (record { told = told.Nothing; change = change.Stays })
 unfit_follows o p unfit =
     record {
-      kept = λ l runs is same. absurd cc;
+      kept = λ l made is same. absurd cc;
       over = λ r e m. absurd (unfit r e m);
       cells = λ r e m. absurd (unfit r e m);
       told = λ r e m. absurd (unfit r e m);
@@ -183,7 +183,7 @@ unfit_follows o p unfit =
 pub stays_follows : (l : Layer) → Follows (Some l) plan.Stays (record { told = told.Nothing; change = change.Stays })
 stays_follows l =
     record {
-      kept = λ k runs is same. absurd cc;
+      kept = λ k made is same. absurd cc;
       over = λ r e m. subst (λ x. IsOver (members_after x r) l) (sym (stays-at e m.plan_is)) m.over;
       cells = λ r e m. subst (λ x. cells_over (members_after x r) l ≡ cells_after x (cells_over r l)) (sym (stays-at e m.plan_is)) refl;
       told = λ r e m. subst (λ x. Leads told.Nothing (shown_of (cells_over r l)) (shown_of (cells_after x (cells_over r l)))) (sym (stays-at e m.plan_is)) refl;
@@ -192,7 +192,7 @@ stays_follows l =
 pub empties_follows : (l : Layer) → Follows (Some l) plan.Empties (record { told = told.Emptied; change = change.Ends })
 empties_follows l =
     record {
-      kept = λ k runs is same. absurd cc;
+      kept = λ k made is same. absurd cc;
       over = λ r e m. tt;
       cells = λ r e m. subst (λ x. resting (members_after x r) ≡ cells_after x (cells_over r l)) (sym (empties-at e m.plan_is)) refl;
       told = λ r e m. subst (λ x. Leads told.Emptied (shown_of (cells_over r l)) (shown_of (cells_after x (cells_over r l)))) (sym (empties-at e m.plan_is)) refl;
@@ -202,22 +202,22 @@ length-put : (r new : PartialText) (p : ℕ) → p ≤ length r → length (take
 length-put r new p l =
     omega (arith, length-append (take p r ++ new) (drop p r), length-append (take p r) new, length-take-le p r l, length-drop p r, l)
 
-pub inserts_follow : (l : Layer) (p n at : ℕ) (runs : List Run) → IsLayer (with_runs l runs)
-    → ((r new : PartialText) → IsOver r l → length new ≡ n → cells_over (take p r ++ new ++ drop p r) (with_runs l runs) ≡ inserted p new (cells_over r l))
+pub inserts_follow : (l : Layer) (p n at : ℕ) (made : BlockChange) → IsPrepared l made
+    → ((r new : PartialText) → IsOver r l → length new ≡ n → cells_over (take p r ++ new ++ drop p r) (with_change l made) ≡ inserted p new (cells_over r l))
     → ((r : PartialText) → IsOver r l → at ≡ shown_place p (cells_over r l))
-    → rasp_length (with_runs l runs) ≡ rasp_length l + n
-    → Follows (Some l) (plan.Inserts p n) (record { told = told.Came at n; change = change.Runs runs })
-inserts_follow l p n at runs layer cells place size =
+    → rasp_length (with_change l made) ≡ rasp_length l + n
+    → Follows (Some l) (plan.Inserts p n) (record { told = told.Came at n; change = change.Runs made })
+inserts_follow l p n at made layer cells place size =
     record {
-      kept = λ k xs is same. keeps-layer l k runs xs layer is same;
+      kept = λ k xs is same. keeps-layer l k made xs layer is same;
       over = λ r e m.
           let x = inserts-at e p n m.plan_is in
           let fits : FitsIn (length r) (Inserts p x.0) = subst (FitsIn (length r)) x.1 m.fit in
-          subst (λ y. IsOver (members_after y r) (with_runs l runs)) (sym x.1)
+          subst (λ y. IsOver (members_after y r) (with_change l made)) (sym x.1)
           (omega (arith, size, m.over, x.2, length-put r x.0 p fits.0));
       cells = λ r e m.
           let x = inserts-at e p n m.plan_is in
-          subst (λ y. cells_over (members_after y r) (with_runs l runs) ≡ cells_after y (cells_over r l)) (sym x.1) (cells r x.0 m.over x.2);
+          subst (λ y. cells_over (members_after y r) (with_change l made) ≡ cells_after y (cells_over r l)) (sym x.1) (cells r x.0 m.over x.2);
       told = λ r e m.
           let x = inserts-at e p n m.plan_is in
           let cs = cells_over r l in
@@ -251,22 +251,22 @@ fills_follow l p n fillings cells tells =
     length-filled r s q h =
         omega (arith, length-append (take q r ++ map Some s) (drop (q + length s) r), length-append (take q r) (map Some s), length-map s Some, length-take-le q r (omega (arith, h)), length-drop (q + length s) r, h)
 
-pub removes_follow : (l : Layer) (p n : ℕ) (removals : Vec Removal) (runs : List Run) → IsLayer (with_runs l runs)
-    → ((r : PartialText) → IsOver r l → cells_over (take p r ++ drop (p + n) r) (with_runs l runs) ≡ removed p (p + n) (cells_over r l))
+pub removes_follow : (l : Layer) (p n : ℕ) (removals : Vec Removal) (made : BlockChange) → IsPrepared l made
+    → ((r : PartialText) → IsOver r l → cells_over (take p r ++ drop (p + n) r) (with_change l made) ≡ removed p (p + n) (cells_over r l))
     → ((r : PartialText) → IsOver r l
     → all_put (shown_of (cells_over r l)) (reverse (removal_changes removals.items)) ≡ shown_of (removed p (p + n) (cells_over r l)))
-    → rasp_length (with_runs l runs) + (p + n - p) ≡ rasp_length l
-    → Follows (Some l) (plan.Removes p n) (record { told = told.Went removals; change = change.Runs runs })
-removes_follow l p n removals runs layer cells tells size =
+    → rasp_length (with_change l made) + (p + n - p) ≡ rasp_length l
+    → Follows (Some l) (plan.Removes p n) (record { told = told.Went removals; change = change.Runs made })
+removes_follow l p n removals made layer cells tells size =
     record {
-      kept = λ k xs is same. keeps-layer l k runs xs layer is same;
+      kept = λ k xs is same. keeps-layer l k made xs layer is same;
       over = λ r e m.
           let x = removes-at e p n m.plan_is in
           let fits : FitsIn (length r) (Removes p n) = subst (FitsIn (length r)) x m.fit in
-          subst (λ y. IsOver (members_after y r) (with_runs l runs)) (sym x)
+          subst (λ y. IsOver (members_after y r) (with_change l made)) (sym x)
           (omega (arith, size, m.over, fits, length-append (take p r) (drop (p + n) r), length-take-le p r (omega (arith, fits)), length-drop (p + n) r));
       cells = λ r e m.
-          subst (λ y. cells_over (members_after y r) (with_runs l runs) ≡ cells_after y (cells_over r l)) (sym (removes-at e p n m.plan_is)) (cells r m.over);
+          subst (λ y. cells_over (members_after y r) (with_change l made) ≡ cells_after y (cells_over r l)) (sym (removes-at e p n m.plan_is)) (cells r m.over);
       told = λ r e m.
           let cs = cells_over r l in
           subst (λ y. Leads (told.Went removals) (shown_of cs) (shown_of (cells_after y cs))) (sym (removes-at e p n m.plan_is)) (sym (tells r m.over));

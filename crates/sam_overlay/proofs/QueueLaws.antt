@@ -7,7 +7,7 @@ use Rattle.sam_runes.specs.Slots.{Slots, slot}
 use Rattle.sam_runes.proofs.SlotLaws.{slot_past}
 use Rattle.sam_pending.specs.Cells.{IsNewest, PartialText, arrived, resting, text_at}
 use Rattle.sam_pending.specs.Groups.{IsPutUpTo, is_due_by}
-use Rattle.sam_pending.specs.Layers.{Layer}
+use Rattle.sam_pending.specs.Layers.{Layer, runs_of}
 use Rattle.sam_pending.proofs.GroupLaws.{text_shown}
 use Rattle.sam_pending.proofs.LayerLaws.{newest_cells}
 use Rattle.sam_term.specs.Term.{PlainTerminal, rasp_at, window_at}
@@ -60,7 +60,7 @@ newest_resting g r = All-map (IsNewest g) arrived r (λ j y i. (tt, tt))
 
 newest-in : (r : PartialText) (o : Option Layer) → All (IsNewest (newest_in o)) (cells_in r o)
 newest-in r None = newest_resting 0 r
-newest-in r (Some l) = newest_cells l.runs l.text r
+newest-in r (Some l) = newest_cells (runs_of l) l.text r
 
 max-turned : (a b : ℕ) → max a b ≡ max b a
 max-turned a b = omega arith

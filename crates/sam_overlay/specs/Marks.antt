@@ -4,7 +4,7 @@ use Rattle.sam_runes.specs.Slots.{slot}
 use Rattle.sam_rasp.specs.Rasp.{place_after_ins}
 use Rattle.sam_pending.specs.Cells.{Cell, PartialText, inserted, place_at, text_at}
 use Rattle.sam_pending.specs.Groups.{place_after_removal}
-use Rattle.sam_pending.specs.Layers.{Layer}
+use Rattle.sam_pending.specs.Layers.{Layer, runs_of}
 use Rattle.sam_pending.specs.Runs.{lost_in}
 use Rattle.sam_term.specs.Events.{file_of}
 use Rattle.sam_term.specs.declared.event.UserEvent.{UserEvent}
@@ -74,7 +74,7 @@ marked (m ∷ ms) (r ∷ rs) = with_request_marks m r ∷ marked ms rs
 -- file, of the groups up to a limit
 abbrev pub lost_of : Option ℕ → ℕ → ℕ → Option Layer → ℕ
 lost_of m g x None = 0
-lost_of m g x (Some l) = lost_in m g x l.runs
+lost_of m g x (Some l) = lost_in m g x (runs_of l)
 
 -- where place x goes that such a request names: as many to the front as go before it. Past the end of that text no place moves
 abbrev pub place_after_drop : Option ℕ → ℕ → Option Layer → List Cell → ℕ → ℕ

@@ -3,13 +3,13 @@ use Rattle.std.specs.Prelude.{◌≡◌, ◌↔◌, ◌≤◌, ◌<◌, ◌^◌,
 use Rattle.sam_runes.specs.Slots.{Slots, slot}
 use Rattle.sam_runes.specs.Texts.{max_runes}
 use Rattle.sam_runes.specs.declared.edit.Edit.{Edit}
+use Rattle.sam_pending.specs.Blocks.{BlockChange}
 use Rattle.sam_pending.specs.Cells.{PartialText, Cell, IsMade, IsNewest, all_put, put, rasp_of, replaced, resting, shown_of}
 use Rattle.sam_pending.specs.Groups.{IsMadeBy, IsPutUpTo}
-use Rattle.sam_pending.specs.Layers.{Layer, DropsNext, IsLayer, IsOver, cells_over, first_dropped, newest_group, next_edit, next_made, rasp_length, with_runs}
+use Rattle.sam_pending.specs.Layers.{Layer, DropsNext, IsOver, IsPrepared, cells_over, first_dropped, newest_group, next_edit, next_made, rasp_length, runs_of, with_change}
 use Rattle.sam_pending.specs.Runs.{edit_change, filling_changes, removal_changes, rests}
 use Rattle.sam_pending.specs.declared.fault.PendingFault.{PendingFault}
 use Rattle.sam_pending.specs.declared.fault.PendingFault.TheVariants as failed
-use Rattle.sam_pending.specs.declared.run.Run.{Run}
 use Rattle.sam_pending.specs.declared.told.Dropped.{Dropped}
 use Rattle.sam_endpoint.specs.declared.changes.Change.{Change}
 use Rattle.sam_endpoint.specs.declared.step.TermStep.{TermStep}
@@ -36,7 +36,7 @@ IsOverRasp r (Some l) = IsOver r l
 -- what waits after a change
 abbrev pub layer_after : LayerChange → Option Layer → Option Layer
 layer_after change.Stays o = o
-layer_after (change.Runs runs) o = option_map (λ l. with_runs l runs) o
+layer_after (change.Runs made) o = option_map (λ l. with_change l made) o
 layer_after change.Ends o = None
 
 -- what is told leads from the old shown text to the new one: some members came in at a place; some went, the last removal first; runes
@@ -73,7 +73,7 @@ pub record Meets (o : Option Layer) (plan : Plan) (r : PartialText) (e : Effect)
 -- whatever rasp the layer is over, and whatever members come: the layer after the change is over the rasp after it, its cells are those
 -- after the change, and what is told leads to what is shown then
 pub record Follows (o : Option Layer) (plan : Plan) (x : Outcome) : Type 0 where
-  pub kept : (l : Layer) (runs : List Run) → o ≡ Some l → x.change ≡ change.Runs runs → IsLayer (with_runs l runs)
+  pub kept : (l : Layer) (made : BlockChange) → o ≡ Some l → x.change ≡ change.Runs made → IsPrepared l made
   pub over : (r : PartialText) (e : Effect) → Meets o plan r e → IsOverRasp (members_after e r) (layer_after x.change o)
   pub cells : (r : PartialText) (e : Effect) → Meets o plan r e
       → cells_in (members_after e r) (layer_after x.change o) ≡ cells_after e (cells_in r o)
@@ -102,7 +102,7 @@ IsNextMadeBy m l =
 -- an edit waits: some cell is not in the rasp yet, or is to go
 abbrev pub has_edit : Option Layer → Bool
 has_edit None = false
-has_edit (Some l) = not (rests l.runs)
+has_edit (Some l) = not (rests (runs_of l))
 
 -- none waits over the files from one tag on up to another
 abbrev pub NoneWaits : Slots Layer → ℕ → ℕ → Type 0

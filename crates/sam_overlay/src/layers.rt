@@ -2,10 +2,10 @@
 
 ghost use Rattle.std.specs.Prelude.{◌≡◌, ◌++◌, ◌+◌, ◌-◌, ◌<◌, ◌≤◌, ◌^◌, ℕ, [], length, OnErr, OnOk, IfOk, Ok, Some, None, IsTrue, ◌≢◌, is_some, option_copied, option_map, List, replicate, vec_len, vec_capacity};
 ghost use Rattle.sam_runes.specs.Slots.{slot};
-ghost use Rattle.sam_pending.specs.Layers.{Layer, IsLayer, with_runs, next_made, rasp_length};
+ghost use Rattle.sam_pending.specs.Layers.{Layer, IsPrepared, with_change, next_made, rasp_length};
 ghost use Rattle.sam_overlay.specs.Outcomes.{IsNextKept, IsNextMade, IsNextWaiting, LayerDrops, LayerReplaces, IsNextMadeBy, NoneWaits, SaysLeft, has_edit, layer_after, newest_in, newest_over};
 ghost use Rattle.sam_overlay.specs.Setting.{Sets};
-ghost use Rattle.sam_pending.specs.declared.run.Run.{Run};
+ghost use Rattle.sam_pending.specs.Blocks.{BlockChange};
 ghost use Rattle.sam_runes.specs.Texts.{max_runes};
 
 use crate::outcome::LayerChange;
@@ -218,8 +218,8 @@ impl Layers {
     /// Makes a change of the host's that was prepared, of what waits over a file now. Nothing is done if nothing waits.
     #[tactic(auto, using(crate::proofs::SlotSteps::set_facts))]
     pub fn take_on(&mut self, tag: u16, change: Prepared)
-        requires { (l : Layer) → slot self.old tag ≡ Some l → IsLayer (with_runs l change) }
-        ensures { Sets self.old tag (option_map (λ l. with_runs l change) (slot self.old tag)) self.new }
+        requires { (l : Layer) → slot self.old tag ≡ Some l → IsPrepared l change }
+        ensures { Sets self.old tag (option_map (λ l. with_change l change) (slot self.old tag)) self.new }
     {
         let index = tag as usize;
         if index < self.slots.len() {
@@ -229,8 +229,8 @@ impl Layers {
 
     /// Makes of what waits over a file what a change of the host's leaves of it.
     pub fn follow(&mut self, tag: u16, change: LayerChange)
-        requires { (l : Layer) (runs : List Run) → slot self.old tag ≡ Some l → change ≡ LayerChange.Runs runs
-            → IsLayer (with_runs l runs) }
+        requires { (l : Layer) (made : BlockChange) → slot self.old tag ≡ Some l → change ≡ LayerChange.Runs made
+            → IsPrepared l made }
         ensures { Sets self.old tag (layer_after change (slot self.old tag)) self.new }
     {
         match change {
@@ -344,8 +344,8 @@ fn newest_in(layer: &Option<Pending>) -> u32
 
 /// Makes a change of the host's that was prepared, if something waits.
 fn take_on(layer: &mut Option<Pending>, change: Prepared)
-    requires { (l : Layer) → layer.old ≡ Some l → IsLayer (with_runs l change) }
-    ensures { layer.new ≡ option_map (λ l. with_runs l change) layer.old }
+    requires { (l : Layer) → layer.old ≡ Some l → IsPrepared l change }
+    ensures { layer.new ≡ option_map (λ l. with_change l change) layer.old }
 {
     if let Some(pending) = layer {
         pending.take_on(change);

@@ -16,7 +16,7 @@ use std::alloc::{AllocError, Global};
 pub(crate) enum LayerChange {
     /// It stays.
     Stays,
-    /// It gets these runs.
+    /// Its runs change so.
     Runs(Prepared),
     /// It goes with the text.
     Ends,

@@ -4,7 +4,7 @@ ghost use Rattle.std.specs.Prelude.{◌≡◌, ◌≢◌, ◌⊎◌, ◌↔◌, 
 ghost use Rattle.sam_runes.specs.Checks.{first_of_checks};
 ghost use Rattle.sam_runes.specs.Slots.{slot};
 ghost use Rattle.sam_runes.specs.Texts.{max_runes};
-ghost use Rattle.sam_pending.specs.Layers.{IsOver, cells_over, next_edit, next_made, rasp_length, shown_members};
+ghost use Rattle.sam_pending.specs.Layers.{IsOver, cells_over, next_edit, next_made, rasp_length, runs_of, shown_members};
 ghost use Rattle.sam_pending.specs.Cells.{IsTakenBack, PartialText, rasp_of, resting, shown_of};
 ghost use Rattle.sam_pending.specs.Runs.{has_next};
 ghost use Rattle.sam_endpoint.specs.TermEndpoints.{IsDone};
@@ -686,7 +686,7 @@ fn is_unlocked(term: &Terminal, tag: u16) -> bool
 
 /// Returns the next edit of what waits, of the groups up to a limit, where there is one.
 fn next_edit(pending: &Pending, up_to: Option<u32>) -> Result<Edit, PutFault>
-    requires { IsTrue (has_next up_to pending.now.runs) }
+    requires { IsTrue (has_next up_to (runs_of pending.now)) }
     ensures edit { IfOk result (λ e. next_edit up_to pending.now ≡ Some e) }
     ensures room { OnOk result (rasp_length (next_made up_to pending.now) ≤ max_runes) }
     ensures err { IfErr result (λ why. ((why ≡ PutFault.TooLong) × (max_runes < rasp_length (next_made up_to pending.now)))

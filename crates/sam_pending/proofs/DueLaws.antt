@@ -10,12 +10,13 @@ use Rattle.sam_runes.specs.declared.edit.Edit.{Edit}
 use Rattle.sam_pending.specs.Groups.{IsMadeBy, is_due_by}
 use Rattle.sam_pending.specs.Cells.{PartialText, Cell, Change, IsMade, IsTaken, IsBrought, come, goes, put, rasp_of, shown_of, in_rasp, is_shown}
 use Rattle.sam_pending.specs.Runs.{held, typed_by, runes_of, room, rooms, wait, waits, cells, cells_of, reach, Within, is_due, first_due, edit_at, made_run, made_first, has_due, has_next, is_up_to, next_deed, edit_change, run_rests, rests}
-use Rattle.sam_pending.specs.Layers.{Layer, IsLayer, IsOver, cells_over, next_edit, next_made, rasp_length}
+use Rattle.sam_pending.specs.Layers.{Layer, IsLayer, IsOver, cells_over, next_edit, next_made, rasp_length, runs_of}
 use Rattle.sam_pending.specs.declared.run.Run.{Run}
 use Rattle.sam_pending.specs.declared.run.Run.TheVariants.{Held, Typed}
 use Rattle.sam_pending.specs.declared.run.Deed.{Deed}
 use Rattle.sam_pending.specs.declared.run.Deed.TheVariants.{Removes, Inserts}
 use Rattle.sam_pending.proofs.CellLaws.{members-append, members-three}
+use Rattle.sam_pending.proofs.FirstLaws.{flat_made}
 use Rattle.sam_pending.proofs.RunLaws.{runes-size, take-front, drop-front}
 use Rattle.sam_pending.proofs.SendLaws.{inserted-block, replaced-block, rasp-held, rasp-typed}
 
@@ -212,17 +213,20 @@ pub record NextIs (m : Option ℕ) (l : Layer) (r : PartialText) (e : Edit) : Ty
   pub by : (g : ℕ) → m ≡ Some g → IsMadeBy g (cells_over r l) (edit_change e) (cells_over (put r (edit_change e)) (next_made m l))
 
 pub next_is : (m : Option ℕ) (l : Layer) (r : PartialText) (e : Edit) → IsLayer l → IsOver r l → next_edit m l ≡ Some e → NextIs m l r e
-next_is m l r e h o f = go (first_due (next_deed m l.runs) 0 l.runs) refl f
+next_is m l r e h o f = go (first_due (next_deed m (runs_of l)) 0 (runs_of l)) refl f
   where
-    go : (found : Option (Run × ℕ)) → first_due (next_deed m l.runs) 0 l.runs ≡ found → option_map (λ x. edit_at l.text x.1 x.0) found ≡ Some e → NextIs m l r e
+    go : (found : Option (Run × ℕ)) → first_due (next_deed m (runs_of l)) 0 (runs_of l) ≡ found → option_map (λ x. edit_at l.text x.1 x.0) found ≡ Some e → NextIs m l r e
     go None g f = absurd cc
     go (Some x) g f =
         let same : edit_at l.text x.1 x.0 ≡ e = some-is f in
-        let t = made_runs (next_deed m l.runs) l.runs l.text r 0 x.0 x.1 [] [] h.within o refl refl g in
+        let w = next_deed m (runs_of l) in
+        let t : MadeRuns w l.text (runs_of l) (runs_of (next_made m l)) r (edit_at l.text x.1 x.0) [] [] =
+        subst (λ xs. MadeRuns w l.text (runs_of l) xs r (edit_at l.text x.1 x.0) [] []) (sym (flat_made w l.blocks))
+        (made_runs w (runs_of l) l.text r 0 x.0 x.1 [] [] h.within o refl refl g) in
         subst (NextIs m l r) same (record {
-          is = subst (λ y. IsMade (cells_over r l) (edit_change (edit_at l.text x.1 x.0)) (cells_of l.text y (next_made m l).runs)) (sym t.put) t.is;
+          is = subst (λ y. IsMade (cells_over r l) (edit_change (edit_at l.text x.1 x.0)) (cells_of l.text y (runs_of (next_made m l)))) (sym t.put) t.is;
           over = t.holds ∙ ap length (sym t.put);
-          by = λ b is. subst (λ y. IsMadeBy b (cells_over r l) (edit_change (edit_at l.text x.1 x.0)) (cells_of l.text y (next_made m l).runs)) (sym t.put) (t.by b (next-limit m l.runs ∙ is));
+          by = λ b is. subst (λ y. IsMadeBy b (cells_over r l) (edit_change (edit_at l.text x.1 x.0)) (cells_of l.text y (runs_of (next_made m l)))) (sym t.put) (t.by b (next-limit m (runs_of l) ∙ is));
         })
 
 -- ## The runs that the code makes
@@ -252,12 +256,15 @@ within-made w n (x ∷ xs) i = step (is_due w x) (within-made w n xs i.1)
     step false h = (i.0, h)
 
 pub next_layer : (m : Option ℕ) (l : Layer) → IsLayer l → rasp_length (next_made m l) ≤ max_runes → IsLayer (next_made m l)
-next_layer m l h few = record {
-  text = h.text;
-  within = within-made (next_deed m l.runs) (length l.text) l.runs h.within;
-  rasp = few;
-  waiting = omega (arith, waits-made (next_deed m l.runs) l.runs, h.waiting);
-}
+next_layer m l h few =
+    let w = next_deed m (runs_of l) in
+    let made : runs_of (next_made m l) ≡ made_first w (runs_of l) = flat_made w l.blocks in
+    record {
+      text = h.text;
+      within = subst (Within (length l.text)) (sym made) (within-made w (length l.text) (runs_of l) h.within);
+      rasp = few;
+      waiting = omega (arith, ap waits made, waits-made w (runs_of l), h.waiting);
+    }
 
 -- the run at which an edit is due takes no more of the text than there is
 pub due_reach : (w : Deed) (xs : List Run) (n k at : ℕ) (x : Run) → Within n xs → first_due w k xs ≡ Some (x, at) → (reach x ≤ n) × (at + room x ≤ k + rooms xs)

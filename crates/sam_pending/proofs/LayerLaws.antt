@@ -8,6 +8,7 @@ use Rattle.sam_runes.specs.Texts.{max_runes}
 use Rattle.sam_runes.specs.declared.edit.Edit.{Edit}
 use Rattle.sam_pending.specs.Cells.{PartialText, is_group, all_put, rasp_of, shown_of, shown_place, resting, replaced, inserted, removed, sent, IsNewest, IsUpTo, waiting_of, in_rasp, Cell}
 use Rattle.sam_pending.specs.Runs.{spot, held, typed_by, runes_of, room, rooms, wait, waits, above, cells, cells_of, reach, Within, size, front, back, dying_runs, waiting_runs, sent_run, sent_runs, run_rests, rests, IsSame, kept_text, kept_runs, left_rooms, put_runs, taken_runs, edit_changes, removal_changes, group_or, newest_run, newest_of}
+use Rattle.sam_pending.specs.Blocks.{flat}
 use Rattle.sam_pending.specs.Layers.{Layer, IsLayer, IsTidied, most_kept, part_members}
 use Rattle.sam_pending.specs.declared.run.Stretch.{Stretch}
 use Rattle.sam_pending.specs.declared.run.Run.{Run}
@@ -73,16 +74,19 @@ within-dying g n (Typed s b None ∷ xs) w = step (nat_eq g b) w.0 (within-dying
 
 -- ## The user's change
 
-pub record Replaces (text s : List ℕ) (xs after : List Run) (g p q : ℕ) : Type 0 where
-  pub layer : IsLayer (record { text = text ++ s; runs = after })
-  pub cells : (r : PartialText) → rooms xs ≡ length r → cells_of (text ++ s) r after ≡ replaced g p q s (cells_of text r xs)
-  pub rasp : rooms after ≡ rooms xs
+pub record Replaces (text s : List ℕ) (bs ds : List (List Run)) (g p q : ℕ) : Type 0 where
+  pub layer : IsLayer (record { text = text ++ s; blocks = ds })
+  pub cells : (r : PartialText) → rooms (flat bs) ≡ length r → cells_of (text ++ s) r (flat ds) ≡ replaced g p q s (cells_of text r (flat bs))
+  pub rasp : rooms (flat ds) ≡ rooms (flat bs)
 
-pub replaces : (text s : List ℕ) (xs after : List Run) (g p q : ℕ) (t : Stretch) → IsLayer (record { text = text; runs = xs })
-    → t.start ≡ length text → t.count ≡ length s → length text + length s ≤ most_kept → waits xs + length s ≤ max_runes
-    → IsSame after (front Above p xs ++ Typed t g None ∷ [] ++ dying_runs g (front Above (q - p) (back Above p xs)) ++ back Above (q - p) (back Above p xs))
-    → Replaces text s xs after g p q
-replaces text s xs after g p q t h start count kept waiting same =
+pub replaces : (text s : List ℕ) (bs ds : List (List Run)) (g p q : ℕ) (t : Stretch) → IsLayer (record { text = text; blocks = bs })
+    → t.start ≡ length text → t.count ≡ length s → length text + length s ≤ most_kept → waits (flat bs) + length s ≤ max_runes
+    → IsSame (flat ds)
+    (front Above p (flat bs) ++ Typed t g None ∷ [] ++ dying_runs g (front Above (q - p) (back Above p (flat bs))) ++ back Above (q - p) (back Above p (flat bs)))
+    → Replaces text s bs ds g p q
+replaces text s bs ds g p q t h start count kept waiting same =
+    let xs = flat bs in
+    let after = flat ds in
     let n = length (text ++ s) in
     let size_of = length-append text s in
     let f = front Above p xs in
@@ -122,25 +126,29 @@ replaces text s xs after g p q t h start count kept waiting same =
 
 -- ## The text anew
 
-pub record Keeps (text : List ℕ) (xs : List Run) : Type 0 where
-  pub layer : IsLayer (record { text = kept_text text xs; runs = kept_runs 0 xs })
-  pub tidied : IsTidied (record { text = text; runs = xs }) (record { text = kept_text text xs; runs = kept_runs 0 xs })
+pub record Keeps (text kept : List ℕ) (bs ds : List (List Run)) : Type 0 where
+  pub layer : IsLayer (record { text = kept; blocks = ds })
+  pub tidied : IsTidied (record { text = text; blocks = bs }) (record { text = kept; blocks = ds })
 
-pub keeps : (text : List ℕ) (xs : List Run) → IsLayer (record { text = text; runs = xs }) → Keeps text xs
-keeps text xs h =
-    let n = kept-length text xs h.within in
+pub keeps : (text kept : List ℕ) (bs ds : List (List Run)) → IsLayer (record { text = text; blocks = bs })
+    → kept ≡ kept_text text (flat bs) → flat ds ≡ kept_runs 0 (flat bs) → Keeps text kept bs ds
+keeps text kept bs ds h e f =
+    let xs = flat bs in
+    let n : length kept ≡ waits xs = ap length e ∙ kept-length text xs h.within in
+    let rasp : rooms (flat ds) ≡ rooms xs = ap rooms f ∙ kept-rooms 0 xs in
+    let waiting : waits (flat ds) ≡ waits xs = ap waits f ∙ kept-waits 0 xs in
     record {
       layer = record {
         text = omega (arith, n, h.waiting);
-        within = kept-within 0 (length (kept_text text xs)) xs (omega (arith, n));
-        rasp = omega (arith, kept-rooms 0 xs, h.rasp);
-        waiting = omega (arith, kept-waits 0 xs, h.waiting);
+        within = subst (Within (length kept)) (sym f) (kept-within 0 (length kept) xs (omega (arith, n)));
+        rasp = omega (arith, rasp, h.rasp);
+        waiting = omega (arith, waiting, h.waiting);
       };
       tidied = record {
-        cells = λ r e. kept-runs text xs r h.within;
-        rasp = kept-rooms 0 xs;
-        waiting = kept-waits 0 xs;
-        shown = kept-above 0 xs;
+        cells = λ r o. ap (λ t. cells_of t r (flat ds)) e ∙ (ap (cells_of (kept_text text xs) r) f ∙ kept-runs text xs r h.within);
+        rasp = rasp;
+        waiting = waiting;
+        shown = ap above f ∙ kept-above 0 xs;
       };
     }
 
@@ -149,15 +157,18 @@ stays-tidied l = record { cells = λ r e. refl; rasp = refl; waiting = refl; sho
 
 -- ## The host's insertion
 
-pub record Inserts (text : List ℕ) (xs after : List Run) (p n : ℕ) : Type 0 where
-  pub layer : IsLayer (record { text = text; runs = after })
-  pub cells : (r new : PartialText) → rooms xs ≡ length r → length new ≡ n → cells_of text (take p r ++ new ++ drop p r) after ≡ inserted p new (cells_of text r xs)
-  pub place : (r : PartialText) → rooms xs ≡ length r → above (front Below p xs) ≡ shown_place p (cells_of text r xs)
-  pub rasp : rooms after ≡ rooms xs + n
+pub record Inserts (text : List ℕ) (bs ds : List (List Run)) (p n : ℕ) : Type 0 where
+  pub layer : IsLayer (record { text = text; blocks = ds })
+  pub cells : (r new : PartialText) → rooms (flat bs) ≡ length r → length new ≡ n
+      → cells_of text (take p r ++ new ++ drop p r) (flat ds) ≡ inserted p new (cells_of text r (flat bs))
+  pub place : (r : PartialText) → rooms (flat bs) ≡ length r → above (front Below p (flat bs)) ≡ shown_place p (cells_of text r (flat bs))
+  pub rasp : rooms (flat ds) ≡ rooms (flat bs) + n
 
-pub inserts : (text : List ℕ) (xs after : List Run) (p n : ℕ) → IsLayer (record { text = text; runs = xs }) → p ≤ rooms xs → rooms xs + n ≤ max_runes
-    → IsSame after (front Below p xs ++ Held n None ∷ [] ++ back Below p xs) → Inserts text xs after p n
-inserts text xs after p n h l m same =
+pub inserts : (text : List ℕ) (bs ds : List (List Run)) (p n : ℕ) → IsLayer (record { text = text; blocks = bs }) → p ≤ rooms (flat bs) → rooms (flat bs) + n ≤ max_runes
+    → IsSame (flat ds) (front Below p (flat bs) ++ Held n None ∷ [] ++ back Below p (flat bs)) → Inserts text bs ds p n
+inserts text bs ds p n h l m same =
+    let xs = flat bs in
+    let after = flat ds in
     let f = front Below p xs in
     let one = Held n None ∷ [] in
     let b = back Below p xs in
@@ -187,14 +198,17 @@ within-waiting n [] w = tt
 within-waiting n (Held k d ∷ xs) w = within-waiting n xs w.1
 within-waiting n (Typed s g d ∷ xs) w = (w.0, within-waiting n xs w.1)
 
-pub record Removes (text : List ℕ) (xs after : List Run) (p q : ℕ) : Type 0 where
-  pub layer : IsLayer (record { text = text; runs = after })
-  pub cells : (r : PartialText) → rooms xs ≡ length r → cells_of text (take p r ++ drop q r) after ≡ removed p q (cells_of text r xs)
-  pub rasp : rooms after + (q - p) ≡ rooms xs
+pub record Removes (text : List ℕ) (bs ds : List (List Run)) (p q : ℕ) : Type 0 where
+  pub layer : IsLayer (record { text = text; blocks = ds })
+  pub cells : (r : PartialText) → rooms (flat bs) ≡ length r → cells_of text (take p r ++ drop q r) (flat ds) ≡ removed p q (cells_of text r (flat bs))
+  pub rasp : rooms (flat ds) + (q - p) ≡ rooms (flat bs)
 
-pub removes : (text : List ℕ) (xs after : List Run) (p q : ℕ) → IsLayer (record { text = text; runs = xs }) → p ≤ q → q ≤ rooms xs
-    → IsSame after (front Below p xs ++ waiting_runs (front Below (q - p) (back Below p xs)) ++ back Below (q - p) (back Below p xs)) → Removes text xs after p q
-removes text xs after p q h o l same =
+pub removes : (text : List ℕ) (bs ds : List (List Run)) (p q : ℕ) → IsLayer (record { text = text; blocks = bs }) → p ≤ q → q ≤ rooms (flat bs)
+    → IsSame (flat ds) (front Below p (flat bs) ++ waiting_runs (front Below (q - p) (back Below p (flat bs))) ++ back Below (q - p) (back Below p (flat bs)))
+    → Removes text bs ds p q
+removes text bs ds p q h o l same =
+    let xs = flat bs in
+    let after = flat ds in
     let f = front Below p xs in
     let b = back Below p xs in
     let m = front Below (q - p) b in
@@ -253,38 +267,38 @@ within-sent g n (x ∷ xs) w = within-append n (sent_run g x) (sent_runs g xs) (
         step false true = (omega arith, tt)
         step false false = (l, tt)
 
-pub record Sends (text : List ℕ) (xs after : List Run) (es : List Edit) (g : ℕ) : Type 0 where
-  pub layer : IsLayer (record { text = text; runs = after })
-  pub rasp : (r : PartialText) → rooms xs ≡ length r
-      → all_put (all_put r (reverse (removal_changes (taken_runs g 0 xs)))) (reverse (edit_changes es)) ≡ rasp_of (sent g (cells_of text r xs))
-  pub cells : (r : PartialText) → rooms xs ≡ length r
-      → cells_of text (all_put (all_put r (reverse (removal_changes (taken_runs g 0 xs)))) (reverse (edit_changes es))) after ≡ sent g (cells_of text r xs)
-  pub over : (r : PartialText) → rooms xs ≡ length r
-      → rooms after ≡ length (all_put (all_put r (reverse (removal_changes (taken_runs g 0 xs)))) (reverse (edit_changes es)))
+pub record Sends (text : List ℕ) (bs ds : List (List Run)) (es : List Edit) (g : ℕ) : Type 0 where
+  pub layer : IsLayer (record { text = text; blocks = ds })
+  pub rasp : (r : PartialText) → rooms (flat bs) ≡ length r
+      → all_put (all_put r (reverse (removal_changes (taken_runs g 0 (flat bs))))) (reverse (edit_changes es)) ≡ rasp_of (sent g (cells_of text r (flat bs)))
+  pub cells : (r : PartialText) → rooms (flat bs) ≡ length r
+      → cells_of text (all_put (all_put r (reverse (removal_changes (taken_runs g 0 (flat bs))))) (reverse (edit_changes es))) (flat ds) ≡ sent g (cells_of text r (flat bs))
+  pub over : (r : PartialText) → rooms (flat bs) ≡ length r
+      → rooms (flat ds) ≡ length (all_put (all_put r (reverse (removal_changes (taken_runs g 0 (flat bs))))) (reverse (edit_changes es)))
 
-pub sends : (text : List ℕ) (xs after : List Run) (es : List Edit) (g : ℕ) → IsLayer (record { text = text; runs = xs }) → rooms (sent_runs g xs) ≤ max_runes
-    → IsSame after (sent_runs g xs)
-    → ((v : PartialText) → left_rooms g xs ≤ length v → all_put v (reverse (edit_changes es)) ≡ all_put v (reverse (put_runs text g 0 xs)))
-    → Sends text xs after es g
-sends text xs after es g h m same made = record {
+pub sends : (text : List ℕ) (bs ds : List (List Run)) (es : List Edit) (g : ℕ) → IsLayer (record { text = text; blocks = bs }) → rooms (sent_runs g (flat bs)) ≤ max_runes
+    → IsSame (flat ds) (sent_runs g (flat bs))
+    → ((v : PartialText) → left_rooms g (flat bs) ≤ length v → all_put v (reverse (edit_changes es)) ≡ all_put v (reverse (put_runs text g 0 (flat bs))))
+    → Sends text bs ds es g
+sends text bs ds es g h m same made = record {
   layer = record {
     text = h.text;
-    within = same.within (length text) (within-sent g (length text) xs h.within);
+    within = same.within (length text) (within-sent g (length text) (flat bs) h.within);
     rasp = omega (arith, same.rooms, m);
-    waiting = omega (arith, same.waits, waits-sent g xs, h.waiting);
+    waiting = omega (arith, same.waits, waits-sent g (flat bs), h.waiting);
   };
   rasp = λ r e. rasp r e;
   cells = λ r e.
-      ap (λ z. cells_of text z after) (rasp r e) ∙ (same.cells text (rasp_of (sent g (cells_of text r xs))) ∙ (sent-runs g text xs r h.within e).is);
-  over = λ r e. same.rooms ∙ ((sent-runs g text xs r h.within e).holds ∙ sym (ap length (rasp r e)));
+      ap (λ z. cells_of text z (flat ds)) (rasp r e) ∙ (same.cells text (rasp_of (sent g (cells_of text r (flat bs)))) ∙ (sent-runs g text (flat bs) r h.within e).is);
+  over = λ r e. same.rooms ∙ ((sent-runs g text (flat bs) r h.within e).holds ∙ sym (ap length (rasp r e)));
 }
   where
-    rasp : (r : PartialText) → rooms xs ≡ length r
-        → all_put (all_put r (reverse (removal_changes (taken_runs g 0 xs)))) (reverse (edit_changes es)) ≡ rasp_of (sent g (cells_of text r xs))
+    rasp : (r : PartialText) → rooms (flat bs) ≡ length r
+        → all_put (all_put r (reverse (removal_changes (taken_runs g 0 (flat bs))))) (reverse (edit_changes es)) ≡ rasp_of (sent g (cells_of text r (flat bs)))
     rasp r e =
-        let t = sent-runs g text xs r h.within e in
-        let first : all_put r (reverse (removal_changes (taken_runs g 0 xs))) ≡ kept_all g r xs = t.taken 0 [] refl in
-        ap (λ z. all_put z (reverse (edit_changes es))) first ∙ (made (kept_all g r xs) (omega (arith, t.keeps)) ∙ t.made 0 [] refl)
+        let t = sent-runs g text (flat bs) r h.within e in
+        let first : all_put r (reverse (removal_changes (taken_runs g 0 (flat bs)))) ≡ kept_all g r (flat bs) = t.taken 0 [] refl in
+        ap (λ z. all_put z (reverse (edit_changes es))) first ∙ (made (kept_all g r (flat bs)) (omega (arith, t.keeps)) ∙ t.made 0 [] refl)
 
 -- ## Nothing waits
 
@@ -330,8 +344,8 @@ pub ruleset replace_facts = (above-most)
 
 pub ruleset shown_facts = (spot_stands)
 
-pub within-kept : (text : List ℕ) (xs : List Run) → IsLayer (record { text = text; runs = xs }) → Within most_kept xs
-within-kept text xs h = within-more (length text) most_kept xs h.text h.within
+pub within-kept : (text : List ℕ) (bs : List (List Run)) → IsLayer (record { text = text; blocks = bs }) → Within most_kept (flat bs)
+within-kept text bs h = within-more (length text) most_kept (flat bs) h.text h.within
 
 -- ## What stands at a place
 
@@ -351,28 +365,28 @@ part-length : (text : List ℕ) (r : PartialText) (y : Run) (n : ℕ) → reach 
 part-length text r (Held k d) n w l = length-take-le k (drop n r) (omega (arith, l, length-drop n r))
 part-length text r (Typed s g d) n w l = length-map (runes_of text s) Some ∙ runes-size text s w
 
-pub shown_there : (text : List ℕ) (xs : List Run) (p n : ℕ) (y : Run) (r : PartialText) → IsLayer (record { text = text; runs = xs }) → spot p 0 xs ≡ Some (y, n) → rooms xs ≡ length r
+pub shown_there : (text : List ℕ) (bs : List (List Run)) (p n : ℕ) (y : Run) (r : PartialText) → IsLayer (record { text = text; blocks = bs }) → spot p 0 (flat bs) ≡ Some (y, n) → rooms (flat bs) ≡ length r
     → (0 < length (part_members text r y n))
-    × (take (length (part_members text r y n)) (drop p (shown_of (cells_of text r xs))) ≡ part_members text r y n)
-shown_there text xs p n y r h e l =
-    let s : Stands text r (cells_of text r xs) p y n = subst (StandsAt text r (cells_of text r xs) p) e (spot_stands xs text r p 0 h.within (omega (arith, l))) in
+    × (take (length (part_members text r y n)) (drop p (shown_of (cells_of text r (flat bs)))) ≡ part_members text r y n)
+shown_there text bs p n y r h e l =
+    let s : Stands text r (cells_of text r (flat bs)) p y n = subst (StandsAt text r (cells_of text r (flat bs)) p) e (spot_stands (flat bs) text r p 0 h.within (omega (arith, l))) in
     let k = part-length text r y n s.within s.there in (
       omega (arith, k, s.some),
-      ap (λ j. take j (drop p (shown_of (cells_of text r xs)))) k ∙ (s.is ∙ part-is text r y n),
+      ap (λ j. take j (drop p (shown_of (cells_of text r (flat bs))))) k ∙ (s.is ∙ part-is text r y n),
     )
 
-pub shown_none : (text : List ℕ) (xs : List Run) (p : ℕ) → IsLayer (record { text = text; runs = xs }) → spot p 0 xs ≡ None → above xs ≤ p
-shown_none text xs p h e =
-    let r : PartialText = replicate (rooms xs) None in
-    let l : length r ≡ rooms xs = length-replicate (rooms xs) None in
-    let s : length (shown_of (cells_of text r xs)) ≤ p = subst (StandsAt text r (cells_of text r xs) p) e (spot_stands xs text r p 0 h.within (omega (arith, l))) in
-    omega (arith, s, above_shown xs text r h.within (omega (arith, l)))
+pub shown_none : (text : List ℕ) (bs : List (List Run)) (p : ℕ) → IsLayer (record { text = text; blocks = bs }) → spot p 0 (flat bs) ≡ None → above (flat bs) ≤ p
+shown_none text bs p h e =
+    let r : PartialText = replicate (rooms (flat bs)) None in
+    let l : length r ≡ rooms (flat bs) = length-replicate (rooms (flat bs)) None in
+    let s : length (shown_of (cells_of text r (flat bs))) ≤ p = subst (StandsAt text r (cells_of text r (flat bs)) p) e (spot_stands (flat bs) text r p 0 h.within (omega (arith, l))) in
+    omega (arith, s, above_shown (flat bs) text r h.within (omega (arith, l)))
 
-pub shown_reach : (text : List ℕ) (xs : List Run) (p n : ℕ) (y : Run) → IsLayer (record { text = text; runs = xs }) → spot p 0 xs ≡ Some (y, n) → reach y ≤ length text
-shown_reach text xs p n y h e =
-    let r : PartialText = replicate (rooms xs) None in
-    let l : length r ≡ rooms xs = length-replicate (rooms xs) None in
-    let s : Stands text r (cells_of text r xs) p y n = subst (StandsAt text r (cells_of text r xs) p) e (spot_stands xs text r p 0 h.within (omega (arith, l))) in
+pub shown_reach : (text : List ℕ) (bs : List (List Run)) (p n : ℕ) (y : Run) → IsLayer (record { text = text; blocks = bs }) → spot p 0 (flat bs) ≡ Some (y, n) → reach y ≤ length text
+shown_reach text bs p n y h e =
+    let r : PartialText = replicate (rooms (flat bs)) None in
+    let l : length r ≡ rooms (flat bs) = length-replicate (rooms (flat bs)) None in
+    let s : Stands text r (cells_of text r (flat bs)) p y n = subst (StandsAt text r (cells_of text r (flat bs)) p) e (spot_stands (flat bs) text r p 0 h.within (omega (arith, l))) in
     s.within
 
 -- ## Groups and what waits

@@ -7,6 +7,8 @@ pub mod PutLaws
 pub mod SendLaws
 pub mod FillLaws
 pub mod SpotLaws
+pub mod FlatLaws
+pub mod FirstLaws
 pub mod DueLaws
 pub mod TakenLaws
 pub mod DropLaws
@@ -15,5 +17,8 @@ pub mod PutUpToLaws
 pub mod PlaceLaws
 pub mod LayerLaws
 pub mod BlockLaws
+pub mod PartLaws
+pub mod FrameLaws
 pub mod WholeLaws
 pub mod OneMachineLaws
+pub mod PassLaws

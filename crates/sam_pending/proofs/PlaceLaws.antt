@@ -6,7 +6,7 @@ use Rattle.std.specs.List.{filter}
 use Rattle.sam_pending.specs.Cells.{Cell, PartialText, by, drop_by, in_rasp, part_by, place_at, rasp_of, removed, resting, stands_at, take_by, text_at, waiting_of}
 use Rattle.sam_pending.specs.Groups.{RemovalsMovePlaces, place_after_removal}
 use Rattle.sam_pending.specs.Runs.{cells_of, gone_in, held, place_in, rooms, run_stands, runes_of, typed_by, Within}
-use Rattle.sam_pending.specs.Layers.{Layer, IsLayer, IsOver, cells_over}
+use Rattle.sam_pending.specs.Layers.{Layer, IsLayer, IsOver, cells_over, runs_of}
 use Rattle.sam_pending.specs.declared.run.Run.{Run}
 use Rattle.sam_pending.specs.declared.run.Run.TheVariants.{Held, Typed}
 use Rattle.sam_pending.proofs.CellLaws.{members-append, members-parted, members-take, members-three, take-drop-by, take-front}
@@ -92,10 +92,10 @@ place_runs (Typed s b d ∷ xs) text r g (suc n) w o =
     go true is false up next = rw (is, up) (place-off g n b d (runes_of text s) rest (rw (is) refl) ∙ (next ∙ omega arith))
 
 -- of each layer
-place-over : (l : Layer) (g p : ℕ) (r : PartialText) → IsLayer l → IsOver r l → place_in g p l.runs ≡ place_at g p (cells_over r l)
-place-over l g p r is over = sym (place_runs l.runs l.text r g p is.within (omega (arith, over)))
+place-over : (l : Layer) (g p : ℕ) (r : PartialText) → IsLayer l → IsOver r l → place_in g p (runs_of l) ≡ place_at g p (cells_over r l)
+place-over l g p r is over = sym (place_runs (runs_of l) l.text r g p is.within (omega (arith, over)))
 
-pub place_over : (l : Layer) (g p n : ℕ) → IsLayer l → n ≡ place_in g p l.runs → (r : PartialText) → IsOver r l → n ≡ place_at g p (cells_over r l)
+pub place_over : (l : Layer) (g p n : ℕ) → IsLayer l → n ≡ place_in g p (runs_of l) → (r : PartialText) → IsOver r l → n ≡ place_at g p (cells_over r l)
 place_over l g p n is e r over = e ∙ place-over l g p r is over
 
 pub ruleset place_facts = (place_over)
@@ -312,12 +312,12 @@ gone_runs (Typed s b d ∷ xs) text r g n k y w o =
     go true is false up next = rw (is, up) (off (rw is refl) next)
 
 -- of each layer
-pub removal_over : (l : Layer) (g x p k n : ℕ) → IsLayer l → n ≡ x - gone_in g p k x l.runs
+pub removal_over : (l : Layer) (g x p k n : ℕ) → IsLayer l → n ≡ x - gone_in g p k x (runs_of l)
     → (r : PartialText) → IsOver r l → n ≡ place_after_removal g p (p + k) x (cells_over r l)
 removal_over l g x p k n is e r over =
     let range : k ≡ p + k - p = omega arith in
     e ∙ ap (λ z. x - z)
-    (sym (gone_runs l.runs l.text r g p k x is.within (omega (arith, over)))
+    (sym (gone_runs (runs_of l) l.text r g p k x is.within (omega (arith, over)))
     ∙ ap (λ j. gone g p j x (cells_over r l)) range)
 
 pub ruleset removal_facts = (removal_over)

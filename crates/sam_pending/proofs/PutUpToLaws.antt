@@ -5,7 +5,7 @@ use Rattle.std.proofs.lemmas.Bool.Decides.{nat_tests}
 use Rattle.std.proofs.lemmas.List.Elements.{All-append, All-map}
 use Rattle.sam_pending.specs.Cells.{Cell, PartialText}
 use Rattle.sam_pending.specs.Groups.{IsPutUpTo, is_due_by}
-use Rattle.sam_pending.specs.Layers.{Layer, IsLayer, SaysLeft}
+use Rattle.sam_pending.specs.Layers.{Layer, IsLayer, SaysLeft, runs_of}
 use Rattle.sam_pending.specs.Runs.{held, typed_by, runes_of, room, rooms, cells, cells_of, reach, Within, is_due, has_due, has_next}
 use Rattle.sam_pending.specs.declared.run.Run.{Run}
 use Rattle.sam_pending.specs.declared.run.Run.TheVariants.{Held, Typed}
@@ -103,10 +103,10 @@ runs_put g (x ∷ xs) text r w l =
           ∙ rest.1 (put-back g (cells text r x) (cells_of text (drop (room x) r) xs) p)),
     )
 
-pub left_said : (l : Layer) (g : ℕ) → IsLayer l → SaysLeft g l (has_next (Some g) l.runs)
-left_said l g h r o = runs_put g l.runs l.text r h.within (omega (arith, o))
+pub left_said : (l : Layer) (g : ℕ) → IsLayer l → SaysLeft g l (has_next (Some g) (runs_of l))
+left_said l g h r o = runs_put g (runs_of l) l.text r h.within (omega (arith, o))
 
-pub left-said : (l : Layer) (m : Option ℕ) → IsLayer l → (g : ℕ) → m ≡ Some g → SaysLeft g l (has_next m l.runs)
-left-said l m h g is = subst (λ k. SaysLeft g l (has_next k l.runs)) (sym is) (left_said l g h)
+pub left-said : (l : Layer) (m : Option ℕ) → IsLayer l → (g : ℕ) → m ≡ Some g → SaysLeft g l (has_next m (runs_of l))
+left-said l m h g is = subst (λ k. SaysLeft g l (has_next k (runs_of l))) (sym is) (left_said l g h)
 
 pub ruleset left_facts = (left-said)

@@ -1,59 +1,14 @@
 -- Changes of blocks that go over all runs.
-use Rattle.std.proofs.Common.{◌≡◌, refl, sym, ap, ◌∙◌, ℕ, ◌+◌, ◌≤◌, Bool, true, false, cond, nat_eq, List, [], ◌∷◌, ◌++◌, length, drop, get_or, ◌<◌, Option, None, arith, append_assoc}
+use Rattle.std.proofs.Common.{◌≡◌, refl, sym, ap, ◌∙◌, ℕ, ◌+◌, ◌≤◌, Bool, true, false, cond, nat_eq, List, [], ◌∷◌, ◌++◌, length, drop, get_or, ◌<◌, arith, append_assoc}
 use Rattle.sam_pending.specs.Blocks.{flat}
 use Rattle.sam_pending.specs.Cells.{is_group}
-use Rattle.sam_pending.specs.Runs.{room, rooms, wait, waits, front, back, waiting_runs, kept_runs, sent_run, sent_runs, without_typed, is_due, IsSame}
+use Rattle.sam_pending.specs.Runs.{room, rooms, wait, waits, kept_runs, sent_run, sent_runs, IsSame}
 use Rattle.sam_pending.specs.declared.run.Run.{Run}
 use Rattle.sam_pending.specs.declared.run.Run.TheVariants.{Held, Typed}
-use Rattle.sam_pending.specs.declared.run.Deed.TheVariants.{Inserts}
-use Rattle.sam_pending.specs.declared.run.Side.TheVariants.{Below}
-use Rattle.sam_pending.proofs.RunLaws.{rooms-append, rooms-waiting}
-use Rattle.sam_pending.proofs.JoinLaws.{waits-append, waits-split, rooms-split}
+use Rattle.sam_pending.proofs.RunLaws.{rooms-append}
+use Rattle.sam_pending.proofs.JoinLaws.{waits-append}
 use Rattle.sam_pending.proofs.BlockLaws.{one-more}
 use Rattle.sam_pending.proofs.KeptLaws.{kept-rooms, kept-waits}
-use Rattle.sam_pending.proofs.LayerLaws.{waits-waiting}
-
-pub inserted_fits : (p n : ℕ) (xs after : List Run) → IsSame after (front Below p xs ++ Held n None ∷ [] ++ back Below p xs)
-    → rooms after + waits after ≤ rooms xs + waits xs + n
-inserted_fits p n xs after h =
-    let f = front Below p xs in
-    let one = Held n None ∷ [] in
-    let b = back Below p xs in
-    omega (
-      arith,
-      h.rooms,
-      h.waits,
-      rooms-append (f ++ one) b,
-      rooms-append f one,
-      waits-append (f ++ one) b,
-      waits-append f one,
-      rooms-split Below p xs,
-      waits-split Below p xs,
-    )
-
-pub removed_fits : (p n : ℕ) (xs after : List Run) → IsSame after (front Below p xs ++ waiting_runs (front Below n (back Below p xs)) ++ back Below n (back Below p xs))
-    → rooms after + waits after ≤ rooms xs + waits xs
-removed_fits p n xs after h =
-    let f = front Below p xs in
-    let b = back Below p xs in
-    let m = front Below n b in
-    let y = waiting_runs m in
-    let z = back Below n b in
-    omega (
-      arith,
-      h.rooms,
-      h.waits,
-      rooms-append (f ++ y) z,
-      rooms-append f y,
-      waits-append (f ++ y) z,
-      waits-append f y,
-      rooms-waiting m,
-      waits-waiting m,
-      rooms-split Below p xs,
-      waits-split Below p xs,
-      rooms-split Below n b,
-      waits-split Below n b,
-    )
 
 pub kept_fits : (n : ℕ) (xs : List Run) → rooms (kept_runs n xs) + waits (kept_runs n xs) ≤ rooms xs + waits xs
 kept_fits n xs = omega (arith, kept-rooms n xs, kept-waits n xs)
@@ -103,15 +58,6 @@ sent_fits g xs after h = omega (arith, h.rooms, h.waits, all xs)
     all : (ys : List Run) → rooms (sent_runs g ys) + waits (sent_runs g ys) ≤ rooms ys + waits ys
     all [] = omega arith
     all (y ∷ ys) = omega (arith, rooms-append (sent_run g y) (sent_runs g ys), waits-append (sent_run g y) (sent_runs g ys), one y, all ys)
-
-pub without_fits : (m : Option ℕ) (xs : List Run) → rooms (without_typed m xs) + waits (without_typed m xs) ≤ rooms xs + waits xs
-without_fits m [] = omega arith
-without_fits m (x ∷ xs) = step (is_due (Inserts m) x) (without_fits m xs)
-  where
-    step : (t : Bool) → rooms (without_typed m xs) + waits (without_typed m xs) ≤ rooms xs + waits xs
-        → rooms (cond t xs (x ∷ without_typed m xs)) + waits (cond t xs (x ∷ without_typed m xs)) ≤ (room x + rooms xs) + (wait x + waits xs)
-    step true h = omega arith
-    step false h = omega (arith, h)
 
 pub sent-on : (g : ℕ) (bs : List (List Run)) (i : ℕ) (b : List Run) → i < length bs → b ≡ get_or bs i b
     → rooms (sent_runs g (flat (drop i bs))) ≡ rooms (sent_runs g b) + rooms (sent_runs g (flat (drop (i + 1) bs)))

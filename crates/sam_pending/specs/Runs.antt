@@ -298,10 +298,10 @@ abbrev pub first_typed : Option ℕ → ℕ → List Run → Option (Run × ℕ)
 first_typed m n [] = None
 first_typed m n (x ∷ xs) = if is_due (Inserts m) x then Some (x, n) else first_typed m (n + above (x ∷ [])) xs
 
--- the runs without it
-abbrev pub without_typed : Option ℕ → List Run → List Run
-without_typed m [] = []
-without_typed m (x ∷ xs) = if is_due (Inserts m) x then xs else x ∷ without_typed m xs
+-- the runs with an empty one in its place
+abbrev pub taken_first : Option ℕ → List Run → List Run
+taken_first m [] = []
+taken_first m (x ∷ xs) = if is_due (Inserts m) x then Held 0 None ∷ xs else x ∷ taken_first m xs
 
 -- all removals come before the first insertion
 abbrev pub next_deed : Option ℕ → List Run → Deed

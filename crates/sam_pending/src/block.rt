@@ -1,10 +1,10 @@
 //! `Block`: some runs in order, with their sums.
 
 ghost use Rattle.std.specs.Prelude.{◌≡◌, ◌≤◌, ◌<◌, ◌+◌, ◌^◌};
-ghost use Rattle.sam_pending.specs.Blocks.{inserting_run, older, oldest_inserting, oldest_removing, reaches, removing_run};
-ghost use Rattle.sam_pending.specs.Runs.{above, has_due, made_first, newest_of, rooms, waits};
+ghost use Rattle.sam_pending.specs.Blocks.{inserting_run, measure, older, oldest_inserting, oldest_removing, reaches, removing_run};
+ghost use Rattle.sam_pending.specs.Runs.{above, has_due, made_first, newest_of, rooms, taken_first, waits};
 
-use crate::run::{Deed, Run};
+use crate::run::{Deed, Run, Side};
 use crate::{due, runs};
 use std::marker::Model;
 
@@ -94,6 +94,16 @@ impl Block {
         self.shown_len
     }
 
+    /// Returns how many of its cells count on a side.
+    pub fn len(&self, side: Side) -> u32
+        ensures { result ≡ measure side self.now }
+    {
+        match side {
+            Side::Below => self.rasp_len(),
+            Side::Above => self.shown_len(),
+        }
+    }
+
     /// Returns its newest group; 0 if none waits.
     pub fn newest(&self) -> u32
         ensures { result ≡ newest_of self.now }
@@ -120,6 +130,21 @@ impl Block {
         ensures { self.new ≡ made_first deed self.old }
     {
         due::make_first(&mut self.runs, deed);
+        self.rasp_len = runs::rasp_len(self.runs.as_slice());
+        self.waiting_len = runs::waiting_len(self.runs.as_slice());
+        self.shown_len = runs::shown_len(self.runs.as_slice());
+        self.newest = runs::newest(self.runs.as_slice());
+        self.removing = oldest_removing(self.runs.as_slice());
+        self.inserting = oldest_inserting(self.runs.as_slice());
+    }
+
+    /// Puts an empty run in place of the first one whose runes are due, of the groups up to a limit; all stays if none are.
+    #[tactic(auto, using(crate::proofs::DropLaws::take_facts))]
+    pub fn take_first(&mut self, up_to: Option<u32>)
+        requires { rooms self.old + waits self.old < 2 ^ 32 }
+        ensures { self.new ≡ taken_first up_to self.old }
+    {
+        due::take_first(&mut self.runs, up_to);
         self.rasp_len = runs::rasp_len(self.runs.as_slice());
         self.waiting_len = runs::waiting_len(self.runs.as_slice());
         self.shown_len = runs::shown_len(self.runs.as_slice());

@@ -1,15 +1,16 @@
 //! Lists of blocks: what `runs` and `due` do with runs, but past whole blocks by their sums.
 
-ghost use Rattle.std.specs.Prelude.{◌≡◌, ◌≤◌, ◌<◌, ◌+◌, ◌-◌, ◌^◌, ◌++◌, [], ◌∷◌, length, take, drop, vec_capacity, vec_len, IfOk, OnOk, OnErr, None};
-ghost use Rattle.sam_pending.specs.Blocks.{flat, StandsBehind};
+ghost use Rattle.std.specs.Prelude.{◌≡◌, ◌≤◌, ◌<◌, ◌+◌, ◌-◌, ◌^◌, ◌++◌, [], ◌∷◌, take, drop, vec_capacity, vec_len, IfOk, OnOk, OnErr, None};
+ghost use Rattle.sam_pending.specs.Blocks.{flat, made_in, taken_in};
 ghost use Rattle.sam_pending.specs.Layers.{most_kept};
-ghost use Rattle.sam_pending.specs.Runs.{above, back, dying_runs, first_due, first_typed, front, has_due, has_next, IsSame, made_first, newest_of, next_deed, rests, rooms, spot, waits, Within};
+ghost use Rattle.sam_pending.specs.Runs.{above, back, dying_runs, first_due, first_typed, front, has_due, has_next, IsSame, newest_of, next_deed, rests, rooms, spot, waits, Within};
 ghost use Rattle.sam_pending.specs.declared.run.Run.{Run};
 ghost use Rattle.sam_pending.specs.declared.run.Run.TheVariants.{Typed};
 ghost use Rattle.sam_pending.specs.declared.run.Side.TheVariants.{Above};
 
 use crate::block::Block;
-use crate::run::{Deed, Run, Stretch};
+use crate::part::part_of;
+use crate::run::{Deed, Run, Side, Stretch};
 use crate::{due, runs};
 use std::alloc::{AllocError, Global};
 
@@ -138,10 +139,10 @@ pub(crate) fn first_typed(blocks: &[Block], up_to: Option<u32>) -> Option<(Run, 
 }
 
 /// Returns how many members of the rasp the runs hold once the edit at the first run is made at which it is due.
-#[tactic(auto, using(crate::proofs::BlockLaws::made_room, crate::proofs::BlockLaws::made_none))]
+#[tactic(auto, using(crate::proofs::BlockLaws::made_room, crate::proofs::BlockLaws::made_none, crate::proofs::FirstLaws::flat_made))]
 pub(crate) fn made_len(blocks: &[Block], deed: Deed) -> u32
     requires { rooms (flat blocks.now) + waits (flat blocks.now) < 2 ^ 32 }
-    ensures { result ≡ rooms (made_first deed (flat blocks.now)) }
+    ensures { result ≡ rooms (flat (made_in deed blocks.now)) }
 {
     let len = rasp_len(blocks);
     match first_due(blocks, deed) {
@@ -150,10 +151,25 @@ pub(crate) fn made_len(blocks: &[Block], deed: Deed) -> u32
     }
 }
 
+/// Puts an empty run in place of the first one whose runes are due, of the groups up to a limit; all stays if none are.
+pub(crate) fn take_first(blocks: &mut Vec<Block>, up_to: Option<u32>)
+    requires { rooms (flat blocks.old.items) + waits (flat blocks.old.items) < 2 ^ 32 }
+    ensures { blocks.new.items ≡ taken_in up_to blocks.old.items }
+{
+    for at in 0..blocks.len() {
+        let block = &blocks[at];
+        if block.has_due(Deed::Inserts(up_to)) {
+            let found = &mut blocks[at];
+            found.take_first(up_to);
+            return;
+        }
+    }
+}
+
 /// Makes the edit at the first run at which such an edit is due; all stays if it is due at none.
 pub(crate) fn make_first(blocks: &mut Vec<Block>, deed: Deed)
     requires { rooms (flat blocks.old.items) + waits (flat blocks.old.items) < 2 ^ 32 }
-    ensures { flat blocks.new.items ≡ made_first deed (flat blocks.old.items) }
+    ensures { blocks.new.items ≡ made_in deed blocks.old.items }
 {
     for at in 0..blocks.len() {
         let block = &blocks[at];
@@ -215,69 +231,30 @@ pub(crate) fn cut(alloc: Global, runs: &[Run]) -> Result<Vec<Block>, AllocError>
     Ok(blocks)
 }
 
-/// Returns how many blocks stand before that place of what is shown, and how far into the others it is.
-#[tactic(auto, using(crate::proofs::BlockLaws::walk_facts))]
-fn skipped(blocks: &[Block], place: u32) -> (usize, u32)
-    ensures { StandsBehind blocks.now place result.0 result.1 }
-{
-    let mut index = 0;
-    let mut left = place;
-    while index < blocks.len() && blocks[index].shown_len() < left {
-        left -= blocks[index].shown_len();
-        index += 1;
-    }
-    (index, left)
-}
-
-/// Returns how many of the first blocks are needed, at least one if there is one, to come to that place of what is shown.
-#[tactic(auto, using(crate::proofs::BlockLaws::walk_facts))]
-fn needed(blocks: &[Block], place: u32) -> usize
-    requires there { place ≤ above (flat blocks.now) }
-    requires fits { above (flat blocks.now) < 2 ^ 32 }
-    ensures count { result ≤ length blocks.now }
-    ensures there { place ≤ above (flat (take result blocks.now)) }
-{
-    let mut count = 0;
-    let mut reach = 0;
-    while count < blocks.len() {
-        reach += blocks[count].shown_len();
-        count += 1;
-        if place <= reach {
-            return count;
-        }
-    }
-    count
-}
-
-/// Puts the block at the end of the others, for which there is room.
-fn push_all(blocks: &mut Vec<Block>, mut others: Vec<Block>)
-    requires { vec_len blocks.old + vec_len others ≤ vec_capacity blocks.old }
-    ensures items { blocks.new.items ≡ blocks.old.items ++ others.items }
-    ensures len { vec_len blocks.new ≡ vec_len blocks.old + vec_len others }
+/// Moves others to the end of the blocks, which have room for them.
+pub(crate) fn append(blocks: &mut Vec<Block>, others: &mut Vec<Block>)
+    requires { vec_len blocks.old + vec_len others.old ≤ vec_capacity blocks.old }
+    ensures items { blocks.new.items ≡ blocks.old.items ++ others.old.items }
+    ensures len { vec_len blocks.new ≡ vec_len blocks.old + vec_len others.old }
     ensures capacity { vec_capacity blocks.old ≤ vec_capacity blocks.new }
 {
-    if blocks.append(&mut others).is_err() {
+    if blocks.append(others).is_err() {
         unreachable!();
     }
 }
 
-/// Puts others in the place of so many blocks from block `first` on. The only error is out of memory; after it all is unchanged.
-fn put(
-    blocks: &mut Vec<Block>,
-    first: usize,
-    count: usize,
-    made: Vec<Block>,
-) -> Result<(), AllocError>
-    requires { first + count ≤ vec_len blocks.old }
-    ensures ok { OnOk result (blocks.new.items ≡ take first blocks.old.items ++ made.items ++ drop (first + count) blocks.old.items) }
-    ensures err { OnErr result (blocks.new.items ≡ blocks.old.items) }
+/// Puts others, for which there is room, in the place of so many blocks from block `first` on.
+#[tactic(auto, using(crate::proofs::PartLaws::put_facts))]
+pub(crate) fn put(blocks: &mut Vec<Block>, first: usize, count: usize, mut made: Vec<Block>)
+    requires there { first + count ≤ vec_len blocks.old }
+    requires room { vec_len blocks.old + vec_len made ≤ vec_capacity blocks.old }
+    ensures { blocks.new.items ≡ take first blocks.old.items ++ made.items ++ drop (first + count) blocks.old.items }
 {
-    blocks.reserve(made.len())?;
-    let behind = blocks.split_off(first + count)?;
-    blocks.truncate(first);
-    push_all(blocks, made);
-    push_all(blocks, behind);
-    Ok(())
+    let behind = blocks.len() - (first + count);
+    blocks.rotate_left(first + count);
+    blocks.truncate(behind + first);
+    append(blocks, &mut made);
+    blocks.rotate_left(behind);
 }
 
 /// Puts the runes of a stretch of the text in place of what is shown from place `p` to place `q`, for a group. The only error is out of
@@ -299,13 +276,11 @@ pub(crate) fn replace(
         ++ dying_runs group (front Above (q - p) rest) ++ back Above (q - p) rest)) }
     ensures err { OnErr result (blocks.new.items ≡ blocks.old.items) }
 {
-    let (first, at) = skipped(blocks.as_slice(), p);
-    let others = &blocks.as_slice()[first..];
-    let end = at + (q - p);
-    let count = needed(others, end);
-    let part = gathered(alloc, &others[..count])?;
-    let after = runs::replaced(alloc, part.as_slice(), stretch, group, at, end)?;
+    let part = part_of(alloc, blocks.as_slice(), Side::Above, p, q)?;
+    let runs = part.runs.as_slice();
+    let after = runs::replaced(alloc, runs, stretch, group, part.at, q - p)?;
     let made = cut(alloc, after.as_slice())?;
-    put(blocks, first, count, made)?;
+    blocks.reserve(made.len())?;
+    put(blocks, part.first, part.count, made);
     Ok(())
 }

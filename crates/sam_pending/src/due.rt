@@ -1,7 +1,7 @@
 //! The next edit by which what waits comes to the rasp.
 
 ghost use Rattle.std.specs.Prelude.{◌≡◌, ◌≤◌, ◌<◌, ◌+◌, ◌^◌, length, IfOk};
-ghost use Rattle.sam_pending.specs.Runs.{rooms, room, reach, above, first_due, first_typed, edit_at, made_first, without_typed};
+ghost use Rattle.sam_pending.specs.Runs.{rooms, room, reach, above, first_due, first_typed, edit_at, made_first, taken_first};
 
 use crate::run::{Deed, Run};
 use sam_runes::{Edit, Runes};
@@ -61,25 +61,16 @@ pub(crate) fn first_typed(runs: &[Run], up_to: Option<u32>, start: u32) -> Optio
     None
 }
 
-/// Returns the runs without the first one whose runes are due, of the groups up to a limit. The only error is out of memory.
-#[tactic(auto, using(crate::proofs::RunLaws::gone_facts))]
-pub(crate) fn without_typed(
-    alloc: Global,
-    runs: &[Run],
-    up_to: Option<u32>,
-) -> Result<Vec<Run>, AllocError>
-    ensures { IfOk result (λ left. left.items ≡ without_typed up_to runs.now) }
+/// Puts an empty run in place of the first one whose runes are due, of the groups up to a limit; all stays if none are.
+pub(crate) fn take_first(runs: &mut Vec<Run>, up_to: Option<u32>)
+    ensures { runs.new.items ≡ taken_first up_to runs.old.items }
 {
-    let mut left = Vec::with_capacity(alloc, runs.len())?;
-    let mut is_taken = false;
-    for run in runs {
-        if !is_taken && run.is_due(Deed::Inserts(up_to)) {
-            is_taken = true;
-        } else {
-            left.push(*run)?;
+    for at in 0..runs.len() {
+        if runs[at].is_due(Deed::Inserts(up_to)) {
+            runs[at] = Run::Held(0, None);
+            return;
         }
     }
-    Ok(left)
 }
 
 /// Makes the edit at the first run at which such an edit is due; all stays if it is due at none.

@@ -5,14 +5,14 @@ ghost use Rattle.sam_runes.specs.Texts.{max_runes};
 ghost use Rattle.sam_pending.specs.Cells.{PartialText, IsMade, all_put, place_at, put, rasp_of, shown_of, shown_place, waiting_of, IsNewest, resting, replaced, inserted, removed, filled, sent};
 ghost use Rattle.sam_pending.specs.Groups.{IsMadeBy, place_after_removal};
 ghost use Rattle.sam_pending.specs.Runs.{lost_in, rests, has_next, edit_change, removal_changes, filling_changes};
-ghost use Rattle.sam_pending.specs.Layers.{cells_over, rasp_length, waiting_length, shown_length, newest_group, sent_length, sent_text, shown_members, next_edit, next_made, DropsNext, first_dropped, with_runs, IsLayer, IsOver, IsTidied, AreShort, SaysLeft, most_kept};
+ghost use Rattle.sam_pending.specs.Layers.{cells_over, rasp_length, waiting_length, shown_length, newest_group, sent_length, sent_text, shown_members, next_edit, next_made, DropsNext, first_dropped, runs_of, with_change, IsLayer, IsPrepared, IsOver, IsTidied, AreShort, SaysLeft, most_kept};
 ghost use Rattle.sam_runes.specs.declared.edit.Edit.{Edit};
 
 use crate::block::Block;
 use crate::fault::PendingFault;
 use crate::run::{Run, Stretch};
 use crate::told::{Dropped, Filling, Prepared, Removal, Sent, Shown};
-use crate::{blocks, due, places, runs, wholes};
+use crate::{blocks, due, frames, places, runs, wholes};
 use sam_runes::{Edit, MAX_RUNES};
 use std::alloc::Global;
 use std::marker::Model;
@@ -39,10 +39,11 @@ const SPARE: usize = 1_024;
 /// let sends = pending.send(1)?; // `!` comes in at place 11 of the rasp
 /// ```
 ///
-/// Runs, which are stretches of cells of one sort, stand in blocks with sums. `replace`, the next edit and a place of what is shown pass over
-/// blocks, of some hundred runs each, and look into one or two. A change of the host's, a whole group that is sent and places of requests
-/// cost as many steps as there are runs. Each change makes at most three runs more, and those that can be one are joined: runes that are
-/// typed one after another are one run. At times the runes that wait are copied, when as many came to the rasp or went since the last time.
+/// Runs, which are stretches of cells of one sort, stand in blocks with sums. `replace`, a change of the host's, the next edit and a place of
+/// what is shown pass over blocks, of some hundred runs each, and look into those in which something changes or stands, mostly one or two. A
+/// place of a request also looks into blocks in which a later group waits. A whole group that is sent costs as many steps as there are runs.
+/// Each change makes at most three runs more, and in the blocks that it changes those that can be one are joined: runes that are typed one
+/// after another are one run. At times the runes that wait are copied, when as many came to the rasp or went since the last time.
 #[derive(Drop)]
 pub struct Pending {
     /// The runes that wait, and some that wait no more.
@@ -54,14 +55,13 @@ pub struct Pending {
 }
 
 impl Model for Pending {
-    ghost use Rattle.sam_pending.specs.Blocks.{flat};
     ghost use Rattle.sam_pending.specs.Layers.{Layer, IsLayer};
 
     ghost Value = { Layer };
 
-    ghost view = { λ s. record { text = s.text.items; runs = flat s.runs.items } };
+    ghost view = { λ s. record { text = s.text.items; blocks = s.runs.items } };
 
-    ghost invariant = { λ s. IsLayer (record { text = s.text.items; runs = flat s.runs.items }) };
+    ghost invariant = { λ s. IsLayer (record { text = s.text.items; blocks = s.runs.items }) };
 }
 
 impl Pending {
@@ -117,7 +117,7 @@ impl Pending {
     /// Returns whether nothing waits: then the rasp is shown.
     #[tactic(auto, using(crate::proofs::LayerLaws::rests_facts))]
     pub fn is_resting(&self) -> bool
-        ensures value { result ≡ rests self.now.runs }
+        ensures value { result ≡ rests (runs_of self.now) }
         ensures rests { IsTrue result → (r : PartialText) → IsOver r self.now → cells_over r self.now ≡ resting r }
     {
         blocks::rest(self.runs.as_slice())
@@ -215,11 +215,11 @@ impl Pending {
     /// members; `OutOfMemory`.
     #[tactic(auto, using(crate::proofs::LayerLaws::insert_facts))]
     pub fn prepare_insert(&self, p: u32, count: u32) -> Result<(u32, Prepared), PendingFault>
-        ensures layer { IfOk result (λ x. IsLayer (with_runs self.now x.1)) }
+        ensures layer { IfOk result (λ x. IsPrepared self.now x.1) }
         ensures cells { IfOk result (λ x. (r new : PartialText) → IsOver r self.now → length new ≡ count
-            → cells_over (take p r ++ new ++ drop p r) (with_runs self.now x.1) ≡ inserted p new (cells_over r self.now)) }
+            → cells_over (take p r ++ new ++ drop p r) (with_change self.now x.1) ≡ inserted p new (cells_over r self.now)) }
         ensures place { IfOk result (λ x. (r : PartialText) → IsOver r self.now → x.0 ≡ shown_place p (cells_over r self.now)) }
-        ensures rasp { IfOk result (λ x. rasp_length (with_runs self.now x.1) ≡ rasp_length self.now + count) }
+        ensures rasp { IfOk result (λ x. rasp_length (with_change self.now x.1) ≡ rasp_length self.now + count) }
         ensures position { (result ≡ Err PendingFault.BadPosition) ↔ (rasp_length self.now < p) }
         ensures long { (result ≡ Err PendingFault.TooLong) ↔ ((p ≤ rasp_length self.now) × (max_runes < rasp_length self.now + count)) }
     {
@@ -230,8 +230,8 @@ impl Pending {
         if count > MAX_RUNES - len {
             return Err(PendingFault::TooLong);
         }
-        let (place, runs) = wholes::inserted(self.alloc, self.runs.as_slice(), p, count)?;
-        Ok((place, Prepared { runs }))
+        let (place, change) = frames::inserted(self.alloc, self.runs.as_slice(), p, count)?;
+        Ok((place, change))
     }
 
     /// Prepares that the host removes what stands from place `p` to place `q` of the rasp: `take_on` then makes it so. Returns what will go
@@ -240,21 +240,21 @@ impl Pending {
     /// Errors, in this order: `BadPosition` if `q` is less than `p` or past the end of the rasp; `OutOfMemory`.
     #[tactic(auto, using(crate::proofs::LayerLaws::remove_facts))]
     pub fn prepare_remove(&self, p: u32, q: u32) -> Result<(Vec<Removal>, Prepared), PendingFault>
-        ensures layer { IfOk result (λ x. IsLayer (with_runs self.now x.1)) }
+        ensures layer { IfOk result (λ x. IsPrepared self.now x.1) }
         ensures cells { IfOk result (λ x. (r : PartialText) → IsOver r self.now
-            → cells_over (take p r ++ drop q r) (with_runs self.now x.1) ≡ removed p q (cells_over r self.now)) }
+            → cells_over (take p r ++ drop q r) (with_change self.now x.1) ≡ removed p q (cells_over r self.now)) }
         ensures told { IfOk result (λ x. (r : PartialText) → IsOver r self.now
             → all_put (shown_of (cells_over r self.now)) (reverse (removal_changes x.0.items))
             ≡ shown_of (removed p q (cells_over r self.now))) }
-        ensures rasp { IfOk result (λ x. rasp_length (with_runs self.now x.1) + (q - p) ≡ rasp_length self.now) }
+        ensures rasp { IfOk result (λ x. rasp_length (with_change self.now x.1) + (q - p) ≡ rasp_length self.now) }
         ensures position { (result ≡ Err PendingFault.BadPosition) ↔ ((q < p) ⊎ (rasp_length self.now < q)) }
         ensures err { OnErr result ((result ≡ Err PendingFault.BadPosition) ⊎ (result ≡ Err PendingFault.OutOfMemory)) }
     {
         if p > q || q > blocks::rasp_len(self.runs.as_slice()) {
             return Err(PendingFault::BadPosition);
         }
-        let (told, runs) = wholes::removed(self.alloc, self.runs.as_slice(), p, q)?;
-        Ok((told, Prepared { runs }))
+        let (told, change) = frames::removed(self.alloc, self.runs.as_slice(), p, q)?;
+        Ok((told, change))
     }
 
     /// Returns the place, of the text that a request of the group comes to, at place `p` of the rasp.
@@ -278,17 +278,17 @@ impl Pending {
     /// Returns where a place, of the text that a request of the group comes to, goes as `drop_next` takes runes back: as many to the front
     /// as stand before it in that text and go. `DropsNext` says of what is taken back that this is so.
     pub fn place_after_drop(&self, up_to: Option<u32>, group: u32, place: u32) -> u32
-        ensures { result ≡ place - lost_in up_to group place self.now.runs }
+        ensures { result ≡ place - lost_in up_to group place (runs_of self.now) }
     {
         places::place_after_drop(self.runs.as_slice(), up_to, group, place)
     }
 
     /// Makes a change of the host's that was prepared, of this layer as it is now. It takes no memory.
     pub fn take_on(&mut self, change: Prepared)
-        requires { IsLayer (with_runs self.old change) }
-        ensures { self.new ≡ with_runs self.old change }
+        requires { IsPrepared self.old change }
+        ensures { self.new ≡ with_change self.old change }
     {
-        self.runs = change.runs;
+        frames::take_on(&mut self.runs, change);
     }
 
     /// Takes on that the host put `count` members in at place `p` of the rasp. Returns the place of what is shown where they stand: before
@@ -344,7 +344,7 @@ impl Pending {
         if p > len || count > len - p {
             return Err(PendingFault::BadPosition);
         }
-        let told = wholes::loaded(self.alloc, self.runs.as_slice(), p, count)?;
+        let told = frames::loaded(self.alloc, self.runs.as_slice(), p, count)?;
         Ok(told)
     }
 
@@ -406,8 +406,8 @@ impl Pending {
     /// the text that a request of the group at the limit comes to (`laws::requests_find_what_was_shown`).
     #[tactic(auto, using(crate::proofs::DueLaws::next_facts, crate::proofs::PutUpToLaws::left_facts))]
     pub fn has_next(&self, up_to: Option<u32>) -> bool
-        ensures value { result ≡ has_next up_to self.now.runs }
-        ensures all { (up_to ≡ None) → (result ≡ false) ↔ IsTrue (rests self.now.runs) }
+        ensures value { result ≡ has_next up_to (runs_of self.now) }
+        ensures all { (up_to ≡ None) → (result ≡ false) ↔ IsTrue (rests (runs_of self.now)) }
         ensures cells { (g : ℕ) → up_to ≡ Some g → SaysLeft g self.now result }
     {
         blocks::has_next(self.runs.as_slice(), up_to)
@@ -422,21 +422,30 @@ impl Pending {
     #[tactic(auto, using(crate::proofs::DueLaws::next_facts))]
     pub fn next_edit(&self, up_to: Option<u32>) -> Result<Option<Edit>, PendingFault>
         ensures edit { IfOk result (λ x. x ≡ next_edit up_to self.now) }
-        ensures none { IfOk result (λ x. (x ≡ None) ↔ (has_next up_to self.now.runs ≡ false)) }
+        ensures none { IfOk result (λ x. (x ≡ None) ↔ (has_next up_to (runs_of self.now) ≡ false)) }
         ensures room { OnOk result (rasp_length (next_made up_to self.now) ≤ max_runes) }
         ensures long { (result ≡ Err PendingFault.TooLong) ↔ (max_runes < rasp_length (next_made up_to self.now)) }
         ensures err { OnErr result ((result ≡ Err PendingFault.TooLong) ⊎ (result ≡ Err PendingFault.OutOfMemory)) }
     {
-        let runs = self.runs.as_slice();
-        let deed = blocks::next_deed(runs, up_to);
-        if blocks::made_len(runs, deed) > MAX_RUNES {
+        if self.made_len(up_to) > MAX_RUNES {
             return Err(PendingFault::TooLong);
         }
+        let runs = self.runs.as_slice();
+        let deed = blocks::next_deed(runs, up_to);
         let Some((run, at)) = blocks::first_due(runs, deed) else {
             return Ok(None);
         };
         let edit = due::edit_at(self.alloc, self.text.as_slice(), run, at)?;
         Ok(Some(edit))
+    }
+
+    /// Returns how many members the rasp has once the next edit of the groups up to a limit is made.
+    #[tactic(auto, using(crate::proofs::LayerLaws::length_facts))]
+    fn made_len(&self, up_to: Option<u32>) -> u32
+        ensures { result ≡ rasp_length (next_made up_to self.now) }
+    {
+        let runs = self.runs.as_slice();
+        blocks::made_len(runs, blocks::next_deed(runs, up_to))
     }
 
     /// Takes on that the next edit of the groups up to that limit was made in the rasp. What is shown stays. It takes no memory.
@@ -466,17 +475,15 @@ impl Pending {
             (self.new ≡ first_dropped up_to self.old) × DropsNext up_to self.old d)) }
         ensures err { OnErr result ((self.new ≡ self.old) × (result ≡ Err PendingFault.OutOfMemory)) }
     {
-        let runs = self.runs.as_slice();
-        let deed = blocks::next_deed(runs, up_to);
-        if blocks::made_len(runs, deed) <= MAX_RUNES {
+        if self.made_len(up_to) <= MAX_RUNES {
             return Ok(None);
         }
+        let runs = self.runs.as_slice();
         let Some((run, place)) = blocks::first_typed(runs, up_to) else {
             unreachable!()
         };
         let edit = due::edit_at(self.alloc, self.text.as_slice(), run, 0)?;
-        let left = wholes::without_typed(self.alloc, runs, up_to)?;
-        self.runs = left;
+        blocks::take_first(&mut self.runs, up_to);
         Ok(Some(Dropped {
             place,
             count: run.shown(),

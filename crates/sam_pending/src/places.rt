@@ -8,7 +8,6 @@ use crate::block::Block;
 use crate::run::{Deed, Run};
 
 /// Returns the place of that text at a place of the rasp.
-#[tactic(auto, using(crate::proofs::BlockLaws::place_walk_facts))]
 pub(crate) fn place_at(blocks: &[Block], group: u32, place: u32) -> u32
     requires { rooms (flat blocks.now) + waits (flat blocks.now) < 2 ^ 32 }
     ensures { result ≡ place_in group place (flat blocks.now) }
@@ -16,11 +15,39 @@ pub(crate) fn place_at(blocks: &[Block], group: u32, place: u32) -> u32
     let mut left = place;
     let mut before = 0;
     for block in blocks {
-        let runs = block.runs();
-        for run in runs {
-            before += before_place(*run, group, left);
-            left = left.saturating_sub(run.room());
-        }
+        before += place_in(block, group, left);
+        left = left.saturating_sub(block.rasp_len());
+    }
+    before
+}
+
+/// Returns how many cells of the block stand in that text before a place of the rasp which is `left` members further on.
+#[tactic(auto, using(crate::proofs::PassLaws::place_facts))]
+fn place_in(block: &Block, group: u32, left: u32) -> u32
+    requires { rooms block.now + waits block.now < 2 ^ 32 }
+    ensures before { result ≡ place_in group left block.now }
+    ensures most { result ≤ rooms block.now + waits block.now }
+{
+    if left == 0 {
+        return 0;
+    }
+    if block.newest() <= group && block.rasp_len() < left {
+        return block.shown_len();
+    }
+    place_in_runs(block.runs(), group, left)
+}
+
+/// Returns how many cells of the runs stand in that text before a place of the rasp which is so many members further on.
+fn place_in_runs(runs: &[Run], group: u32, place: u32) -> u32
+    requires { rooms runs.now + waits runs.now < 2 ^ 32 }
+    ensures before { result ≡ place_in group place runs.now }
+    ensures most { result ≤ rooms runs.now + waits runs.now }
+{
+    let mut left = place;
+    let mut before = 0;
+    for run in runs {
+        before += before_place(*run, group, left);
+        left = left.saturating_sub(run.room());
     }
     before
 }
@@ -40,7 +67,7 @@ fn before_place(run: Run, group: u32, left: u32) -> u32
 }
 
 /// Returns where a place of that text goes as `count` members of the rasp are removed, from place `p` on.
-#[tactic(auto, using(crate::proofs::BlockLaws::place_walk_facts))]
+#[tactic(auto, using(crate::proofs::PassLaws::gone_facts))]
 pub(crate) fn place_after_removal(
     blocks: &[Block],
     group: u32,
@@ -55,6 +82,14 @@ pub(crate) fn place_after_removal(
     let mut skipped = p;
     let mut range = count;
     for block in blocks {
+        if range == 0 || left == 0 {
+            return after;
+        }
+        if block.newest() <= group && block.rasp_len() <= skipped && block.shown_len() <= left {
+            left -= block.shown_len();
+            skipped -= block.rasp_len();
+            continue;
+        }
         let runs = block.runs();
         for run in runs {
             let passed = passed(*run, group, left);
@@ -69,7 +104,7 @@ pub(crate) fn place_after_removal(
 }
 
 /// Returns where a place of that text goes as the first run is taken back whose runes are due, of the groups up to a limit.
-#[tactic(auto, using(crate::proofs::BlockLaws::place_walk_facts))]
+#[tactic(auto, using(crate::proofs::PassLaws::lost_facts))]
 pub(crate) fn place_after_drop(blocks: &[Block], up_to: Option<u32>, group: u32, place: u32) -> u32
     ensures { result ≡ place - lost_in up_to group place (flat blocks.now) }
 {

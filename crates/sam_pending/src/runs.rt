@@ -494,24 +494,23 @@ pub(crate) fn insertions(
     Ok(edits)
 }
 
-/// The runs after the group puts the runes of a stretch of the text in place of what is shown from place `p` to place `q`. The only error
-/// is out of memory.
+/// The runs after the group puts the runes of a stretch of the text in place of what is shown from place `p` on, so many cells. The only
+/// error is out of memory.
 pub(crate) fn replaced(
     alloc: Global,
     runs: &[Run],
     stretch: Stretch,
     group: u32,
     p: u32,
-    q: u32,
+    count: u32,
 ) -> Result<Vec<Run>, AllocError>
-    requires ascending { p ≤ q }
-    requires within { Within most_kept runs.now }
+    requires { Within most_kept runs.now }
     ensures { IfOk result (λ after. let rest = back Above p runs.now in
         IsSame after.items (front Above p runs.now ++ Typed stretch group None ∷ []
-        ++ dying_runs group (front Above (q - p) rest) ++ back Above (q - p) rest)) }
+        ++ dying_runs group (front Above count rest) ++ back Above count rest)) }
 {
     let (mut before, rest) = split(alloc, runs, Side::Above, p)?;
-    let (middle, behind) = split(alloc, rest.as_slice(), Side::Above, q - p)?;
+    let (middle, behind) = split(alloc, rest.as_slice(), Side::Above, count)?;
     before.push(Run::Typed(stretch, group, None))?;
     append_dying(&mut before, group, middle.as_slice())?;
     before.extend_from_slice(behind.as_slice())?;
@@ -540,25 +539,29 @@ pub(crate) fn inserted(
     Ok((place, after))
 }
 
-/// The runs after what stands from place `p` to place `q` of the rasp goes, and the removals of what is shown, in ascending places. The
-/// only error is out of memory.
+/// The runs after so many members go from place `p` of the rasp on, and the removals of what is shown, in ascending places, where `start`
+/// shown cells stand before the runs. The only error is out of memory.
 pub(crate) fn removed(
     alloc: Global,
+    start: u32,
     runs: &[Run],
     p: u32,
-    q: u32,
+    count: u32,
 ) -> Result<(Vec<Removal>, Vec<Run>), AllocError>
-    requires ascending { p ≤ q }
     requires within { Within most_kept runs.now }
-    requires shown { above runs.now < 2 ^ 32 }
+    requires shown { start + above runs.now < 2 ^ 32 }
     ensures told { IfOk result (λ told.
-        told.0.items ≡ gone_runs (above (front Below p runs.now)) (front Below (q - p) (back Below p runs.now))) }
+        told.0.items ≡ gone_runs (start + above (front Below p runs.now)) (front Below count (back Below p runs.now))) }
     ensures runs { IfOk result (λ told. let rest = back Below p runs.now in
-        IsSame told.1.items (front Below p runs.now ++ waiting_runs (front Below (q - p) rest) ++ back Below (q - p) rest)) }
+        IsSame told.1.items (front Below p runs.now ++ waiting_runs (front Below count rest) ++ back Below count rest)) }
 {
     let (mut before, rest) = split(alloc, runs, Side::Below, p)?;
-    let (middle, behind) = split(alloc, rest.as_slice(), Side::Below, q - p)?;
-    let told = gone(alloc, shown_len(before.as_slice()), middle.as_slice())?;
+    let (middle, behind) = split(alloc, rest.as_slice(), Side::Below, count)?;
+    let told = gone(
+        alloc,
+        start + shown_len(before.as_slice()),
+        middle.as_slice(),
+    )?;
     let kept = waiting(alloc, middle.as_slice())?;
     before.extend_from_slice(kept.as_slice())?;
     before.extend_from_slice(behind.as_slice())?;
@@ -566,23 +569,28 @@ pub(crate) fn removed(
     Ok((told, after))
 }
 
-/// Where members that are loaded from place `p` of the rasp on are shown, so many of them, in ascending places. The only error is out of
-/// memory.
+/// Where members that are loaded from place `p` of the rasp on are shown, so many of them, in ascending places, where `start` shown cells
+/// stand before the runs. The only error is out of memory.
 pub(crate) fn loaded(
     alloc: Global,
+    start: u32,
     runs: &[Run],
     p: u32,
     count: u32,
 ) -> Result<Vec<Filling>, AllocError>
     requires within { Within most_kept runs.now }
-    requires shown { above runs.now < 2 ^ 32 }
+    requires shown { start + above runs.now < 2 ^ 32 }
     requires held { rooms runs.now < 2 ^ 32 }
     ensures { IfOk result (λ told.
-        told.items ≡ filled_runs (above (front Below p runs.now)) 0 (front Below count (back Below p runs.now))) }
+        told.items ≡ filled_runs (start + above (front Below p runs.now)) 0 (front Below count (back Below p runs.now))) }
 {
     let (before, rest) = split(alloc, runs, Side::Below, p)?;
     let (middle, _) = split(alloc, rest.as_slice(), Side::Below, count)?;
-    filled(alloc, shown_len(before.as_slice()), middle.as_slice())
+    filled(
+        alloc,
+        start + shown_len(before.as_slice()),
+        middle.as_slice(),
+    )
 }
 
 /// Returns how many members of the rasp the runs hold once the group came to it.

@@ -5,21 +5,28 @@ use sam_runes::{Edit, Runes};
 use std::marker::Model;
 
 /// A change of the host's to the rasp, prepared: `Pending::take_on` makes it, and can't fail. It fits the layer that prepared it, as it was
-/// then. A clause sees the runs that it leads to.
+/// then. A clause sees the blocks that come, and in whose place.
 #[derive(Drop)]
 pub struct Prepared {
-    /// The cells in order, as they will be.
-    pub(crate) runs: Vec<Block>,
+    /// How many blocks stand before those that go.
+    pub(crate) first: usize,
+    /// How many blocks go.
+    pub(crate) count: usize,
+    /// The blocks that come in their place.
+    pub(crate) made: Vec<Block>,
+    /// An empty list, which has room for all blocks as they will be, and as they are.
+    pub(crate) room: Vec<Block>,
 }
 
 impl Model for Prepared {
-    ghost use Rattle.std.specs.Prelude.{List};
-    ghost use Rattle.sam_pending.specs.Blocks.{flat};
-    ghost use Rattle.sam_pending.specs.declared.run.Run.{Run};
+    ghost use Rattle.std.specs.Prelude.{◌≡◌, vec_capacity, vec_len};
+    ghost use Rattle.sam_pending.specs.Blocks.{BlockChange};
 
-    ghost Value = { List Run };
+    ghost Value = { BlockChange };
 
-    ghost view = { λ s. flat s.runs.items };
+    ghost view = { λ s. record { first = s.first; count = s.count; made = s.made.items; room = vec_capacity s.room } };
+
+    ghost invariant = { λ s. vec_len s.room ≡ 0 };
 }
 
 /// A removal: what stands from place `p` to place `q` goes.

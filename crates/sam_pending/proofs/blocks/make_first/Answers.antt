@@ -1,7 +1,8 @@
 use Rattle.std.proofs.Common.{◌<◌, ◌∙◌, ap, sym, length, arith}
-use Rattle.sam_pending.specs.Blocks.{flat}
+use Rattle.sam_pending.specs.Blocks.{flat, made_in}
 use Rattle.sam_pending.specs.Runs.{made_first, rooms, waits}
-use Rattle.sam_pending.proofs.BlockLaws.{block_fits, none-made, none-more, set-read}
+use Rattle.sam_pending.proofs.BlockLaws.{block_fits}
+use Rattle.sam_pending.proofs.FirstLaws.{none-made, none-more, set-read}
 use Rattle.sam_pending.proofs.blocks.make_first.Goals as goal
 
 pub make_first-requires : goal.make_first-requires
@@ -18,14 +19,13 @@ make_first-requires c =
 
 pub returns-then-has_due : goal.returns-then-has_due
 returns-then-has_due c =
-    let w = c.args.deed in
     let bs = c.loop-at.blocks.items in
     let i = c.loop-at.at in
     let b = c.index_mut-found.result.now in
     let within : i < length bs = omega (arith, c.loop-at-test.true, c.len-at-end.ensures, ap length c.loop-at.invariant.0) in
     rw (c.make_first.ensures)
-    (set-read w bs i b c.index-block.result.now within c.index_mut-found.ensures.value c.index-block.ensures c.loop-at.invariant.1 (sym c.has_due.ensures ∙ c.if-has_due.true)
-    ∙ ap (λ z. made_first w (flat z)) c.loop-at.invariant.0)
+    (set-read (made_first c.args.deed) c.args.deed bs i b c.index-block.result.now within c.index_mut-found.ensures.value c.index-block.ensures c.loop-at.invariant.1 (sym c.has_due.ensures ∙ c.if-has_due.true)
+    ∙ ap (made_in c.args.deed) c.loop-at.invariant.0)
 
 pub loop-at-preserved : goal.loop-at-preserved
 loop-at-preserved c =
@@ -38,5 +38,5 @@ loop-at-preserved c =
 pub returns : goal.returns
 returns c =
     let bs = c.loop-at.blocks.items in
-    none-made c.args.deed bs c.loop-at.at (omega (arith, c.loop-at-test.false, c.len-at-end.ensures, ap length c.loop-at.invariant.0)) c.loop-at.invariant.1
-    ∙ ap (λ z. made_first c.args.deed (flat z)) c.loop-at.invariant.0
+    none-made (made_first c.args.deed) c.args.deed bs c.loop-at.at (omega (arith, c.loop-at-test.false, c.len-at-end.ensures, ap length c.loop-at.invariant.0)) c.loop-at.invariant.1
+    ∙ ap (made_in c.args.deed) c.loop-at.invariant.0

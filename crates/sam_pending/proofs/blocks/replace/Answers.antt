@@ -1,52 +1,48 @@
-use Rattle.std.proofs.Common.{◌+◌, ◌-◌, ◌≤◌, subst, ◌∙◌, length, take, drop, arith}
-use Rattle.sam_pending.specs.Blocks.{flat, StandsBehind}
+use Rattle.std.proofs.Common.{◌≡◌, ◌+◌, ◌-◌, ◌++◌, ◌∷◌, [], None, List, ap, subst, ◌∙◌, take, drop, arith}
+use Rattle.sam_pending.specs.Blocks.{flat, IsPart}
 use Rattle.sam_pending.specs.Layers.{most_kept}
-use Rattle.sam_pending.specs.Runs.{above, rooms, waits, IsSame}
-use Rattle.sam_pending.proofs.BlockLaws.{others-shown, part-few, part-within, put_in, put_in_fits, replaced_blocks}
+use Rattle.sam_pending.specs.Runs.{back, dying_runs, front, IsSame}
+use Rattle.sam_pending.specs.declared.run.Run.{Run}
+use Rattle.sam_pending.specs.declared.run.Run.TheVariants.{Typed}
+use Rattle.sam_pending.specs.declared.run.Side.TheVariants.{Above}
+use Rattle.sam_pending.proofs.FrameLaws.{replaced_change, replaced_fits}
 use Rattle.sam_pending.proofs.LayerLaws.{above-most}
+use Rattle.sam_pending.proofs.PartLaws.{part_fits, part_within}
 use Rattle.sam_pending.proofs.blocks.replace.Goals as goal
 
-pub needed-count-requires-clause-there : goal.needed-count-requires-clause-there
-needed-count-requires-clause-there c =
-    let bs = c.args.blocks.now.items in
-    let s : StandsBehind bs c.args.p c.skipped-first.result.0 c.skipped-first.result.1 =
-    subst (λ z. StandsBehind z c.args.p c.skipped-first.result.0 c.skipped-first.result.1) c.as_slice.ensures.value c.skipped-first.ensures in
-    rw c.as_slice-2.ensures.value (omega (arith, s.place, c.requires.ascending, c.requires.there, others-shown bs c.skipped-first.result.0))
+pub part_of-requires-clause-fits : goal.part_of-requires-clause-fits
+part_of-requires-clause-fits c = rw c.as_slice.ensures.value (omega (arith, c.requires.fits, above-most (flat c.args.blocks.now.items)))
 
-pub needed-count-requires-clause-fits : goal.needed-count-requires-clause-fits
-needed-count-requires-clause-fits c =
-    let bs = c.args.blocks.now.items in
-    rw c.as_slice-2.ensures.value (omega (arith, c.requires.fits, above-most (flat bs), others-shown bs c.skipped-first.result.0))
-
-pub replaced-requires-clause-within : goal.replaced-requires-clause-within
-replaced-requires-clause-within c =
-    rw (c.as_slice-3.ensures.value, c.in_ok-part.ensures, c.as_slice-2.ensures.value)
-    (part-within c.args.blocks.now.items c.skipped-first.result.0 c.needed-count.result most_kept c.requires.within)
+pub replaced-requires : goal.replaced-requires
+replaced-requires c =
+    rw (c.as_slice-runs.ensures.value) (part_within most_kept c.in_ok-part.ensures (rw c.as_slice.ensures.value c.requires.within))
 
 pub cut-requires : goal.cut-requires
-unfolding put_in
 cut-requires c =
     let bs = c.args.blocks.now.items in
-    let part = c.in_ok-part.part.items in
-    let n = c.needed-count.result in
-    let i = c.skipped-first.result.0 in
-    let k = c.skipped-first.result.1 in
-    let few : rooms part + waits part ≤ rooms (flat bs) + waits (flat bs) = rw (c.in_ok-part.ensures, c.as_slice-2.ensures.value) (part-few bs i n) in
-    let same : IsSame c.in_ok-after.after.items (put_in c.args.group k (k + (c.args.q - c.args.p)) c.args.stretch part) = rw (← c.as_slice-3.ensures.value) c.in_ok-after.ensures in
-    rw c.as_slice-4.ensures.value
-    (omega (arith, few, same.rooms, same.waits, put_in_fits c.args.group k (k + (c.args.q - c.args.p)) c.args.stretch part, c.requires.fits))
+    let part = c.in_ok-part.part in
+    let xs = part.runs.items in
+    let n = c.args.q - c.args.p in
+    let g = c.args.group in
+    let t = c.args.stretch in
+    let h : IsPart Above bs c.args.p c.args.q part.first part.count part.at xs =
+    subst (λ (z : List (List Run)). IsPart Above z c.args.p c.args.q part.first part.count part.at xs) c.as_slice.ensures.value c.in_ok-part.ensures in
+    let same : IsSame c.in_ok-after.after.items (front Above part.at xs ++ Typed t g None ∷ [] ++ dying_runs g (front Above n (back Above part.at xs)) ++ back Above n (back Above part.at xs)) =
+    rw (← c.as_slice-runs.ensures.value) c.in_ok-after.ensures in
+    rw c.as_slice-2.ensures.value (omega (arith, replaced_fits g part.at n t xs c.in_ok-after.after.items same, (part_fits h).all, c.requires.fits))
 
 pub returns-clause-ok : goal.returns-clause-ok
-unfolding put_in
 returns-clause-ok c =
     let bs = c.args.blocks.now.items in
-    let i = c.skipped-first.result.0 in
-    let k = c.skipped-first.result.1 in
-    let n = c.needed-count.result in
-    let s : StandsBehind bs c.args.p i k = subst (λ z. StandsBehind z c.args.p i k) c.as_slice.ensures.value c.skipped-first.ensures in
-    let there : k + (c.args.q - c.args.p) ≤ above (flat (take n (take (length bs - i) (drop i bs)))) = rw (← c.as_slice-2.ensures.value) c.needed-count.ensures.there in
-    let same : IsSame c.in_ok-after.after.items (put_in c.args.group k (k + (c.args.q - c.args.p)) c.args.stretch (flat (take n (take (length bs - i) (drop i bs))))) =
-    rw (← c.as_slice-2.ensures.value, ← c.in_ok-part.ensures, ← c.as_slice-3.ensures.value) c.in_ok-after.ensures in
-    rw c.in_ok-put.ensures.ok
-    (replaced_blocks bs c.in_ok-made.made.items c.args.group c.args.p c.args.q i k n c.args.stretch c.in_ok-after.after.items s c.requires.ascending there same
-    (c.in_ok-made.ensures ∙ c.as_slice-4.ensures.value))
+    let part = c.in_ok-part.part in
+    let xs = part.runs.items in
+    let n = c.args.q - c.args.p in
+    let g = c.args.group in
+    let t = c.args.stretch in
+    let h : IsPart Above bs c.args.p c.args.q part.first part.count part.at xs =
+    subst (λ (z : List (List Run)). IsPart Above z c.args.p c.args.q part.first part.count part.at xs) c.as_slice.ensures.value c.in_ok-part.ensures in
+    let same : IsSame c.in_ok-after.after.items (front Above part.at xs ++ Typed t g None ∷ [] ++ dying_runs g (front Above n (back Above part.at xs)) ++ back Above n (back Above part.at xs)) =
+    rw (← c.as_slice-runs.ensures.value) c.in_ok-after.ensures in
+    let put : c.put.new.blocks.items ≡ take part.first bs ++ c.in_ok-made.made.items ++ drop (part.first + part.count) bs =
+    c.put.ensures ∙ ap (λ (z : List (List Run)). take part.first z ++ c.in_ok-made.made.items ++ drop (part.first + part.count) z) c.in_ok-reserve.ensures.items in
+    rw put (replaced_change g t c.in_ok-made.made.items c.in_ok-after.after.items h (c.in_ok-made.ensures ∙ c.as_slice-2.ensures.value) same)

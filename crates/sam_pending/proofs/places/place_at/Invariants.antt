@@ -1,4 +1,4 @@
-use Rattle.std.proofs.Common.{◌≡◌, ◌+◌, ◌≤◌, ◌++◌, drop}
+use Rattle.std.proofs.Common.{◌≡◌, ◌+◌, ◌≤◌, drop}
 use Rattle.sam_pending.specs.Blocks.{flat}
 use Rattle.sam_pending.specs.Runs.{place_in, rooms, waits}
 use Rattle.sam_pending.proofs.places.place_at.Given as goal
@@ -7,9 +7,3 @@ abbrev pub invariant-loop-block : goal.invariant-loop-block
 invariant-loop-block l =
     (l.before + place_in l.group l.left (flat (drop l.block-index l.blocks)) ≡ place_in l.group l.place (flat l.blocks))
     × (l.before + (rooms (flat (drop l.block-index l.blocks)) + waits (flat (drop l.block-index l.blocks))) ≤ rooms (flat l.blocks) + waits (flat l.blocks))
-
-abbrev pub invariant-loop-run : goal.invariant-loop-run
-invariant-loop-run l =
-    let rest = drop l.run-index l.runs ++ flat (drop (l.block-index + 1) l.blocks) in
-    (l.before + place_in l.group l.left rest ≡ place_in l.group l.place (flat l.blocks))
-    × (l.before + (rooms rest + waits rest) ≤ rooms (flat l.blocks) + waits (flat l.blocks))

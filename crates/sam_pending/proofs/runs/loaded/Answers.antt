@@ -15,6 +15,11 @@ shown_len-requires c =
     let f : above c.as_slice-2.result.now ≡ above (front Below c.args.p c.args.runs.now) = ap above (c.as_slice-2.ensures.value ∙ c.in_ok-before.ensures.0) in
     omega (arith, f, above-split Below c.args.p c.args.runs.now, c.requires.shown)
 
+pub overflow_add-start : goal.overflow_add-start
+overflow_add-start c =
+    let f : c.shown_len.result ≡ above (front Below c.args.p c.args.runs.now) = c.shown_len.ensures ∙ ap above (c.as_slice-2.ensures.value ∙ c.in_ok-before.ensures.0) in
+    omega (arith, f, above-split Below c.args.p c.args.runs.now, c.requires.shown)
+
 pub filled-requires-clause-shown : goal.filled-requires-clause-shown
 filled-requires-clause-shown c =
     let xs = c.args.runs.now in

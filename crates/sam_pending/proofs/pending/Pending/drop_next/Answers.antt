@@ -1,7 +1,7 @@
 use Rattle.std.proofs.Common.{arith, ◌≡◌, ◌<◌, ◌∙◌, refl, ap, sym, length, List, Some}
-use Rattle.sam_pending.specs.Blocks.{flat}
-use Rattle.sam_pending.specs.Layers.{Layer}
-use Rattle.sam_pending.specs.Runs.{first_typed, made_first, next_deed, rooms}
+use Rattle.sam_pending.specs.Blocks.{flat, made_in}
+use Rattle.sam_pending.specs.Layers.{Layer, next_made, rasp_length, runs_of}
+use Rattle.sam_pending.specs.Runs.{first_typed, next_deed, rooms}
 use Rattle.sam_pending.specs.declared.run.Run.{Run}
 use Rattle.sam_pending.proofs.DropLaws.{dropped_layer, drops_next, typed_reach}
 use Rattle.sam_pending.proofs.LayerLaws.{above-most}
@@ -19,20 +19,19 @@ edit_at-requires-clause-within c =
 
 pub invariant_of-self : goal.invariant_of-self
 invariant_of-self c =
-    let l : Layer = record { text = c.self.inside.text.items; runs = (flat c.self.inside.runs.items) } in
-    rw (c.in_ok-left.ensures, c.as_slice-runs.ensures.value) (dropped_layer c.args.up_to l c.self.invariant)
+    let l : Layer = record { text = c.self.inside.text.items; blocks = c.self.inside.runs.items } in
+    rw (c.take_first.ensures) (dropped_layer c.args.up_to l c.self.invariant)
 
 pub returns-clause-dropped : goal.returns-clause-dropped
 returns-clause-dropped c =
-    let l : Layer = record { text = c.self.inside.text.items; runs = (flat c.self.inside.runs.items) } in
-    let xs : List Run = flat c.self.inside.runs.items in
-    let runs = c.as_slice-runs.ensures.value in
-    let found : first_typed c.args.up_to 0 xs ≡ Some (c.in-Some.run', c.in-Some.place) = ap (λ z. first_typed c.args.up_to 0 (flat z)) (sym runs) ∙ (sym c.first_typed.ensures ∙ c.in-Some.is) in
-    let deed : c.next_deed-deed.result ≡ next_deed c.args.up_to xs = c.next_deed-deed.ensures ∙ ap (λ z. next_deed c.args.up_to (flat z)) runs in
-    let made : c.made_len.result ≡ rooms (made_first (next_deed c.args.up_to xs) xs) =
-    c.made_len.ensures ∙ (ap (λ w. rooms (made_first w (flat c.as_slice-runs.result.now))) deed ∙ ap (λ (ys : List (List Run)). rooms (made_first (next_deed c.args.up_to xs) (flat ys))) runs) in
-    let more : rooms xs < rooms (made_first (next_deed c.args.up_to xs) xs) = omega (arith, made, c.if-made_len-le-MAX_RUNES.false, c.self.invariant.rasp) in
-    rw (← c.self.view_is, c.in_ok-left.ensures, runs) (
+    let l : Layer = record { text = c.self.inside.text.items; blocks = c.self.inside.runs.items } in
+    let xs : List Run = runs_of l in
+    let found : first_typed c.args.up_to 0 xs ≡ Some (c.in-Some.run', c.in-Some.place) =
+    ap (λ z. first_typed c.args.up_to 0 (flat z)) (sym c.as_slice-runs.ensures.value) ∙ (sym c.first_typed.ensures ∙ c.in-Some.is) in
+    let made : c.made_len.result ≡ rasp_length (next_made c.args.up_to l) =
+    c.made_len.ensures ∙ sym (ap (λ (x : Layer). rasp_length (next_made c.args.up_to x)) c.self.view_is) in
+    let more : rooms xs < rooms (flat (made_in (next_deed c.args.up_to xs) l.blocks)) = omega (arith, made, c.if-made_len-le-MAX_RUNES.false, c.self.invariant.rasp) in
+    rw (← c.self.view_is, c.take_first.ensures) (
       refl,
       drops_next c.args.up_to l c.in-Some.run' c.in-Some.place (record { place = c.in-Some.place; count = c.shown.result; text = c.in_ok-edit.edit.text }) c.self.invariant more found refl
           c.shown.ensures (grind (arith, c.in_ok-edit.ensures, c.as_slice.ensures.value)),
