@@ -13,7 +13,7 @@ from ..view.windows import Window
 
 MOST_IN_MENU = 2_000  # files
 LEAST_ROWS = 4  # rows of the least window, with its title
-MOST_UNDER_A_LOCK = 2_000  # changes that one key makes while their file is locked
+MOST_UNDER_A_LOCK = 20_000  # changes that one key makes while their file is locked
 TOO_LONG = f"the file would have more than {MOST_RUNES:,} characters"
 
 

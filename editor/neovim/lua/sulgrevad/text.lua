@@ -4,7 +4,7 @@ local ffi = require "ffi"
 local M = {}
 
 local NEWLINE = 10
-local MOST_DIFFERENCES = 1000 -- which cost the client 0.1 seconds while a file is locked, and ten times as many 8 seconds
+local MOST_DIFFERENCES = 10000 -- which cost the client 0.1 seconds while a file is locked
 local REPLACEMENT = "\239\191\189" -- U+FFFD
 
 local function bytes_of(text) return ffi.cast("const uint8_t *", text) end
