@@ -34,7 +34,9 @@ It stays when the session is over.")
 (defvar-local sulgrevad--self nil
   "The buffer itself.
 A clone of it has its variables, and is no buffer of the file.")
-(defvar-local sulgrevad--tick nil "The buffer's tick after the last change that the client knows.")
+(defvar-local sulgrevad--tick nil
+  "The buffer's tick after the last change that the client knows.
+Where it is of no file any more: its tick when it was let go.")
 (defvar-local sulgrevad--has-drifted nil
   "Whether the client may not know all changes of the buffer.
 When the session is over: whether its text stands nowhere else.")
@@ -283,8 +285,13 @@ At the client it is PLACE; it is of COUNT runes."
     (dolist (hook sulgrevad--hooks) (remove-hook (car hook) (cadr hook) t))
     (setq buffer-offer-save nil))
   (kill-local-variable 'revert-buffer-function)
-  (setq buffer-read-only t sulgrevad--tag nil)
+  (setq buffer-read-only t sulgrevad--tag nil sulgrevad--tick (buffer-chars-modified-tick))
   (sulgrevad-mode -1))
+
+(defun sulgrevad--is-left ()
+  "Whether the buffer is as it was let go, and its text stands elsewhere, too."
+  (and (eq sulgrevad--self (current-buffer)) (null sulgrevad--tag) (not sulgrevad--has-drifted)
+       (eql sulgrevad--tick (buffer-chars-modified-tick))))
 
 (defun sulgrevad--update (is-idle)
   "Have the buffer show how its file is.

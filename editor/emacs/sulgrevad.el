@@ -139,17 +139,14 @@ files were not written; undo doesn't."
     (let ((buffers sulgrevad--buffers))
       (sulgrevad--leave)
       (dolist (buffer buffers)
-        (when (and (buffer-live-p buffer) (not (buffer-local-value 'sulgrevad--has-drifted buffer))) (kill-buffer buffer))))))
+        (when (and (buffer-live-p buffer) (with-current-buffer buffer (sulgrevad--is-left))) (kill-buffer buffer))))))
 
 ;;; Files
 
 (defun sulgrevad--left-buffer (name)
   "The buffer of the file NAME that is left of an earlier session, or nil.
 Not one whose text stands nowhere else."
-  (cl-find-if (lambda (buffer)
-                (with-current-buffer buffer
-                  (and (eq sulgrevad--self buffer) (null sulgrevad--tag) (equal sulgrevad--path name) (not sulgrevad--has-drifted))))
-              (buffer-list)))
+  (cl-find-if (lambda (buffer) (with-current-buffer buffer (and (equal sulgrevad--path name) (sulgrevad--is-left)))) (buffer-list)))
 
 (defun sulgrevad--show (tag)
   "The buffer of the file TAG, which is opened and loaded where it is not."

@@ -369,6 +369,28 @@
     (same "and may be edited")
     (asked t (sulgrevad-quit))))
 
+(defun check-left ()
+  "What is typed into a buffer of no session stays: the next session shows the file in another one, and who leaves keeps it."
+  (let ((file (made "left.txt" "text\n")) (left nil) (name nil))
+    (sulgrevad-start (list samhost) file)
+    (insert "sent ")
+    (sulgrevad--wait #'is-sent)
+    (setq left (current-buffer) name (sulgrevad-line-name sulgrevad--line))
+    (sulgrevad--lose "the user has left")
+    (keys "C-x C-q t y p e d SPC")
+    (sulgrevad-take (list samhost) name)
+    (check "the next session shows its text" (equal (sulgrevad--text) "sent text\n") (sulgrevad--text))
+    (check "and leaves what was typed" (equal (with-current-buffer left (buffer-string)) "sent typed text\n")
+           (with-current-buffer left (buffer-string)))
+    (kill-buffer left)
+    (setq left (current-buffer))
+    (sulgrevad--ask 'close sulgrevad--tag)
+    (sulgrevad--wait (lambda () (null sulgrevad--tag)))
+    (keys "C-x C-q t y p e d SPC")
+    (asked t (sulgrevad-quit))
+    (check "who leaves keeps it, too" (and (buffer-live-p left) (equal (with-current-buffer left (buffer-string)) "typed sent text\n")))
+    (when (buffer-live-p left) (kill-buffer left))))
+
 (defun check-missing ()
   "A session that the host does not find is told of, and tried on: its folder may come a little later."
   (let ((file (made "n.txt" "text\n")) (skips-pauses nil) (away (path "away")))
@@ -695,9 +717,9 @@ exec \"$@\"" "sh") (relayed))))
     (setq command-line-args-left nil)
     (if (equal what "long")
         (dolist (one '(check-long check-places check-signs)) (funcall one (append words (list samhost))))
-      (dolist (one '(check-breaks check-many-breaks check-random check-stalled check-take check-failed-write check-replacing check-recovery
-                                  check-hidden check-one-buffer check-missing check-paths check-wishes check-keys check-steps check-no-room
-                                  check-other-versions check-hostile check-passwords check-sources))
+      (dolist (one '(check-breaks check-many-breaks check-random check-stalled check-take check-failed-write check-replacing
+                                  check-recovery check-hidden check-one-buffer check-left check-missing check-paths check-wishes check-keys
+                                  check-steps check-no-room check-other-versions check-hostile check-passwords check-sources))
         (when (memq one (or (bound-and-true-p only) (list one)))
           (funcall one))))
     (princ (format "%d passed, %d failed\n" passed failed))))
