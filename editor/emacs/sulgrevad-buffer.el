@@ -48,8 +48,8 @@ When the session is over: whether its text stands nowhere else.")
 
 (defconst sulgrevad--hooks
   '((before-change-functions sulgrevad--before-change 100) (after-change-functions sulgrevad--after-change -100)
-    (write-contents-functions sulgrevad--write-contents) (kill-buffer-query-functions sulgrevad--may-kill)
-    (kill-buffer-hook sulgrevad--at-kill))
+    (write-contents-functions sulgrevad--write-contents) (after-set-visited-file-name-hook sulgrevad--at-visit)
+    (kill-buffer-query-functions sulgrevad--may-kill) (kill-buffer-hook sulgrevad--at-kill))
   "What is called in the buffer of an open file, by which hooks, how late.
 Functions of others on these hooks may change the buffer, too: of that
 the first learns after them, the second before them.")

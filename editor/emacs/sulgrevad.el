@@ -401,9 +401,19 @@ It would replace no other program's text, or the user says so."
     (or (null why) (yes-or-no-p (format "%s: %s; replace it? " (buffer-name) why)))))
 
 (defun sulgrevad--write-contents ()
-  "Have the host write the buffer, for `save-buffer'."
-  (sulgrevad-save)
-  t)
+  "Have the host write the buffer, for `save-buffer'.
+What visits a file of this machine Emacs writes itself."
+  (unless buffer-file-name
+    (sulgrevad-save)
+    t))
+
+(defun sulgrevad--at-visit ()
+  "Have the buffer leave the session once it visits a file of this machine.
+So it is after `write-file'.  The host keeps its file and the text."
+  (when (and buffer-file-name (sulgrevad--is-ours))
+    (setq sulgrevad--self nil)          ; it is Emacs that asks where it is killed
+    (sulgrevad--let-go)
+    (setq buffer-read-only nil)))
 
 (defun sulgrevad-write-file (path)
   "Have the host write the buffer to PATH, which becomes the file's name."
