@@ -170,21 +170,26 @@ When it is taken, undo takes it back, and it stays at PATH."
         (pop-to-buffer (diff-no-select (current-buffer) path)))
     (?d (when (yes-or-no-p (format "Drop %s for good? " path)) (delete-file path)))))
 
+(defun sulgrevad--become (text)
+  "Have the buffer's text be TEXT.  Change only what differs; undo takes it back."
+  (undo-boundary)
+  (pcase (sulgrevad--difference (sulgrevad--text) text)
+    (`(,start ,end ,to)
+     (save-restriction
+       (widen)
+       (goto-char (1+ start))
+       (delete-region (point) (1+ end))
+       (sulgrevad--pump)                ; what goes takes up room until it has gone
+       (insert (substring text start to))))))
+
 (defun sulgrevad--recover (path)
-  "Have the buffer's text be that at PATH.  Change only what differs."
+  "Have the buffer's text be that at PATH."
   (let ((text (with-temp-buffer
                 (let ((coding-system-for-read 'utf-8-emacs-unix)) (insert-file-contents path))
                 (buffer-string))))
     (when (or (not (string-match-p (string-replace "%d" "[0-9]+" (regexp-quote sulgrevad--gap-words)) text))
               (yes-or-no-p (format "%s lacks characters that were not loaded; take it? " path)))
-      (undo-boundary)
-      (pcase (sulgrevad--difference (sulgrevad--text) text)
-        (`(,start ,end ,to)
-         (save-restriction
-           (widen)
-           (goto-char (1+ start))
-           (delete-region (point) (1+ end))
-           (insert (substring text start to)))))
+      (sulgrevad--become text)
       (message "%s has that text; undo takes it back. It stays in %s until M-x sulgrevad-recover drops it" (buffer-name) path))))
 
 ;;; Leaving

@@ -246,19 +246,13 @@ static emacs_value acknowledge(emacs_env *env, struct session *session, emacs_va
 
 /* What kinds of messages are called in Lisp. The others have nothing but words for people there. */
 static const char *const kinds[SAM_NOTE_NO_JOURNAL + 1] = {
-    [SAM_NOTE_OPEN] = "open",
-    [SAM_NOTE_ANEW] = "anew",
-    [SAM_NOTE_LOST] = "lost",
-    [SAM_NOTE_SHOWN] = "shown",
-    [SAM_NOTE_ENDED] = "ended",
-    [SAM_NOTE_NAMES] = "names",
-    [SAM_NOTE_SAVED] = "saved",
-    [SAM_NOTE_OPENED] = "opened",
-    [SAM_NOTE_SESSION] = "session",
-    [SAM_NOTE_REFUSED] = "refused",
-    [SAM_NOTE_COMPLETE] = "complete",
-    [SAM_NOTE_NOT_SAVED] = "not-saved",
-    [SAM_NOTE_TAKEN_OVER] = "taken-over",
+    [SAM_NOTE_OPEN] = "open",           [SAM_NOTE_ANEW] = "anew",
+    [SAM_NOTE_LOST] = "lost",           [SAM_NOTE_RELOAD] = "reload",
+    [SAM_NOTE_SHOWN] = "shown",         [SAM_NOTE_ENDED] = "ended",
+    [SAM_NOTE_NAMES] = "names",         [SAM_NOTE_SAVED] = "saved",
+    [SAM_NOTE_OPENED] = "opened",       [SAM_NOTE_SESSION] = "session",
+    [SAM_NOTE_REFUSED] = "refused",     [SAM_NOTE_COMPLETE] = "complete",
+    [SAM_NOTE_NOT_SAVED] = "not-saved", [SAM_NOTE_TAKEN_OVER] = "taken-over",
 };
 
 /* The message that was told last: how it was told, its kind, and its fields, paths as bytes. The kind is nil if it can't be read, since it
@@ -314,18 +308,31 @@ static emacs_value next_event(emacs_env *env, struct session *session, emacs_val
 
 /* ---- What the user does ---- */
 
-/* Has samhost open a path, which is a string of bytes, or complete it. The number of the task. */
+/* Has samhost open a path, which is a string of bytes, or complete it, or read a file anew. The number of the task. */
 static emacs_value begin(emacs_env *env, struct session *session, emacs_value *words)
 {
-    bool opens = env->eq(env, words[0], env->intern(env, kinds[SAM_NOTE_OPEN]));
-    uint32_t kind = opens ? SAM_NOTE_OPEN : SAM_NOTE_COMPLETE, task = 0;
+    uint32_t kind = SAM_NOTE_OPEN, task = 0;
+    while (kind < SAM_NOTE_RELOAD && !env->eq(env, words[0], env->intern(env, kinds[kind])))
+        kind++;
     size_t len = 0;
-    uint8_t *path = bytes_in(env, words[1], &len);
+    uint8_t *path = bytes_in(env, words[2], &len);
     if (path == NULL)
         return nil(env);
-    sam_status status = sam_client_begin(&session->client, kind, 0, path, len, time_of(env, words[2]), &task);
+    sam_status status = sam_client_begin(&session->client, kind, tag_of(env, words[1]), path, len, time_of(env, words[3]), &task);
     free(path);
     return number(env, status, task);
+}
+
+/* Tells samhost that a file has by now what another one has, which was read anew. */
+static emacs_value reloaded(emacs_env *env, struct session *session, emacs_value *words)
+{
+    sam_note note = {.kind = SAM_NOTE_RELOADED, .tag = tag_of(env, words[0]), .number = tag_of(env, words[1])};
+    uint8_t bytes[SAM_LINK_MOST_NOTE];
+    size_t len = 0;
+    sam_status status = sam_note_write(&note, bytes, bytes, bytes, bytes, sizeof bytes, &len);
+    if (status == SAM_OK)
+        status = sam_client_put_note(&session->client, bytes, len, time_of(env, words[2]));
+    return done(env, status);
 }
 
 /* All of a file is shown: it is loaded. */
@@ -513,12 +520,13 @@ static const struct function functions[] = {
     {"file", file, 1},
     {"name", name, 1},
     {"due-in", due_in, 1},
-    {"begin", begin, 3},
+    {"begin", begin, 4},
     {"broken", broken, 1},
     {"expect", expect, 2},
     {"pieces", pieces, 3},
     {"receive", receive, 2},
     {"replace", replace, 4},
+    {"reloaded", reloaded, 3},
     {"take-out", take_out, 1},
     {"describe", describe, 1},
     {"connected", connected, 1},

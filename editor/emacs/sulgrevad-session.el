@@ -199,13 +199,18 @@ One of a later version has no kind."
       ('shown (setq sulgrevad--wishes
                     (seq-take (append sulgrevad--wishes (list (cons tag (sulgrevad-note-number note)))) sulgrevad-most-kept))
               (run-with-idle-timer sulgrevad-rest nil #'sulgrevad--show-wished))
-      ('anew (when (< (sulgrevad-note-number note) sulgrevad-all-tags) (cl-pushnew (sulgrevad-note-number note) sulgrevad--hidden)))
+      ('anew (sulgrevad--hide note))
       ('lost (display-warning 'sulgrevad (concat "samhost: " text) :error)) ; in a buffer that stays
       ((or 'saved 'not-saved) (sulgrevad--meet-written note))
       ((guard (not (string-empty-p text))) (message "samhost: %s" text)))))
 
+(defun sulgrevad--hide (note)
+  "Keep in mind that the file of a NOTE is none of the user's."
+  (when (< (sulgrevad-note-number note) sulgrevad-all-tags) (cl-pushnew (sulgrevad-note-number note) sulgrevad--hidden)))
+
 (defun sulgrevad--meet-answer (note)
   "Keep a NOTE, which answers a task, for the command that waits for it."
+  (when (eq 'anew (sulgrevad-note-kind note)) (sulgrevad--hide note))
   (when-let ((answer (assq (sulgrevad-note-request note) sulgrevad--answers))) (setcdr answer note)))
 
 (defun sulgrevad--meet-written (note)

@@ -210,13 +210,14 @@ Its hooks run where no file is visited: that of this path is elsewhere."
     (let ((buffer-file-name name)) (set-auto-mode)))
   (run-mode-hooks))
 
-(defun sulgrevad--question (kind path)
-  "Ask the host by a request of KIND about PATH, and return its answer."
+(defun sulgrevad--question (kind path &optional tag)
+  "Ask the host by a request of KIND about PATH, or the file TAG.
+Return its answer."
   (let* ((bytes (decode-coding-string (encode-coding-string path 'utf-8) 'latin-1))
-         (answer (list (sulgrevad-client-begin sulgrevad--client kind bytes (sulgrevad-line--now)))))
+         (answer (list (sulgrevad-client-begin sulgrevad--client kind (or tag 0) bytes (sulgrevad-line--now)))))
     (push answer sulgrevad--answers)
     (unwind-protect
-        (progn (when (eq kind 'open) (sulgrevad--ask 'offer-version 0 0 sulgrevad-version-offered))
+        (progn (unless (eq kind 'complete) (sulgrevad--ask 'offer-version 0 0 sulgrevad-version-offered))
                (or (sulgrevad--wait (lambda () (cdr answer))) (sulgrevad--refuse "That")))
       (setq sulgrevad--answers (delq answer sulgrevad--answers)))))
 
@@ -224,11 +225,15 @@ Its hooks run where no file is visited: that of this path is elsewhere."
   "Whether the host has told the name of the file TAG, and all others."
   (and (sulgrevad-file-is-known (sulgrevad--file tag)) (sulgrevad--is-idle)))
 
+(defun sulgrevad--await-name (tag)
+  "Wait until the host has told the name of the file TAG."
+  (unless (sulgrevad--wait (lambda () (sulgrevad--is-named tag))) (sulgrevad--refuse "That")))
+
 (defun sulgrevad--open-path (path)
   "Have the host open PATH.  Return its tag."
   (let* ((answer (sulgrevad--question 'open path)) (tag (sulgrevad-note-tag answer)))
     (cond ((eq 'opened (sulgrevad-note-kind answer))
-           (unless (sulgrevad--wait (lambda () (sulgrevad--is-named tag))) (sulgrevad--refuse "That"))
+           (sulgrevad--await-name tag)
            tag)
           ((= sulgrevad--is-folder (sulgrevad-note-code answer)) (user-error "%s is a folder" path))
           (t (user-error "%s is not opened: %s" path (sulgrevad-note-text answer))))))
@@ -280,20 +285,30 @@ argument, read a file name of this machine."
 
 (defun sulgrevad--revert (_ignore-auto noconfirm)
   "Read the buffer's file anew, after a question unless NOCONFIRM.
-The host closes it and opens it again; what was not written is saved
-there first."
+The host reads it as another file, so undo has the text before."
   (sulgrevad--settle "That")
-  (let ((path sulgrevad--path) (tag sulgrevad--tag) (place (point)))
-    (when (string-prefix-p "…" path) (user-error "Only the end of its path is known"))
-    (when (or noconfirm
-              (yes-or-no-p (format "Read %s anew at the host%s? " path (if (buffer-modified-p) ", and drop its changes" ""))))
-      (sulgrevad--ask 'close tag)
-      (sulgrevad--let-go)
-      (sulgrevad--wait (lambda () (not (sulgrevad-file-is-known (sulgrevad--file tag)))))
-      (let ((tag (sulgrevad--open-path path)))
-        (sulgrevad--await-whole tag (buffer-name))
-        (sulgrevad--fill tag path))
-      (goto-char (min place (point-max))))))
+  (when (or noconfirm
+            (yes-or-no-p (format "Read %s anew at the host%s? " sulgrevad--path (if (buffer-modified-p) ", and drop its changes" ""))))
+    (let* ((answer (sulgrevad--question 'reload "" sulgrevad--tag)) (anew (sulgrevad-note-number answer)))
+      (unless (eq 'anew (sulgrevad-note-kind answer))
+        (user-error "%s is not read anew: %s" sulgrevad--path (sulgrevad-note-text answer)))
+      (sulgrevad--await-name anew)
+      (unwind-protect (sulgrevad--take-anew anew)
+        (when sulgrevad--client (sulgrevad--ask 'close anew)))
+      (message "%s is read anew; undo takes that back" (buffer-name)))))
+
+(defun sulgrevad--take-anew (anew)
+  "Have the buffer be what the file ANEW is, and count as written."
+  (sulgrevad--await-whole anew (buffer-name))
+  (sulgrevad--settle "That")
+  (let ((text (sulgrevad--shown anew)) (tag sulgrevad--tag))
+    (let ((inhibit-read-only t)) (save-excursion (sulgrevad--become text)))
+    (sulgrevad--settle "That")          ; the edits go first
+    (unless (equal (sulgrevad--text) text) (user-error "%s is not read anew: another function has changed it" (buffer-name)))
+    (sulgrevad-client-reloaded sulgrevad--client tag anew (sulgrevad-line--now))
+    (sulgrevad--ask 'write tag)
+    (sulgrevad--set-mode sulgrevad--path)
+    (sulgrevad--wait (lambda () (sulgrevad--is-answered tag)))))
 
 ;;; Paths
 
