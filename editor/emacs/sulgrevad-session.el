@@ -254,14 +254,14 @@ What the host may not have is kept here."
 
 (defun sulgrevad--wait (is-there &optional most tell)
   "Go on until IS-THERE is non-nil, and return what that is.
-Give up where the session is over; after MOST seconds where that is a
-number; where it is nil, once the host is silent for
-`sulgrevad-patience'.  Meanwhile TELL is called now and then."
-  (let ((begun (float-time)) (told (float-time)) found)
+Give up where the session is over, also if another has begun; after MOST
+seconds where that is a number; where it is nil, once the host is silent
+for `sulgrevad-patience'.  Meanwhile TELL is called now and then."
+  (let ((client sulgrevad--client) (begun (float-time)) (told (float-time)) found)
     (unwind-protect
         (let ((sulgrevad--is-waiting t))
           (sulgrevad--pump)
-          (while (and sulgrevad--client (not (setq found (funcall is-there))) (not sulgrevad--is-pumping)
+          (while (and client (eq client sulgrevad--client) (not (setq found (funcall is-there))) (not sulgrevad--is-pumping)
                       (sulgrevad--has-patience most begun))
             (when (sulgrevad-line-question sulgrevad--line) (sulgrevad-line-answer sulgrevad--line))
             (accept-process-output nil 0.05)

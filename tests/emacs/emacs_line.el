@@ -457,6 +457,35 @@
     (check "a long text has room in the place of another" (equal (sulgrevad--text) (disk other)) (buffer-size))
     (sulgrevad-quit)))
 
+(defun check-numbers ()
+  "A session's answers go to none of the commands that an earlier one has left, though its numbers are the same."
+  (let* ((file (made "numbers.txt" "text\n")) (told nil) (line nil) (answer nil)
+         (run (lambda () (sulgrevad-client-run sulgrevad--client sulgrevad--tag ",p")))
+         (begin (lambda () (sulgrevad-client-begin sulgrevad--client 'complete 0 "" (sulgrevad-line--now))))
+         (note (lambda (what &rest _) (push (if (numberp what) what (sulgrevad-note-request what)) told))))
+    (sulgrevad-start (list samhost) file)
+    (signal-process (process) 'STOP)
+    (setq line (list (funcall run)) answer (list (funcall begin)))
+    (push line sulgrevad--lines)
+    (push answer sulgrevad--answers)
+    (signal-process (process) 'CONT)
+    (sulgrevad--lose "the user has left")
+    (sulgrevad-start (list samhost) file)
+    (advice-add 'sulgrevad--answer-line :before note)
+    (advice-add 'sulgrevad--meet-answer :before note)
+    (check "the numbers are the same" (equal (list (funcall run) (funcall begin)) (list (car line) (car answer))) line answer)
+    (check "both are answered" (sulgrevad--wait (lambda () (and (memq (car line) told) (memq (car answer) told)))) told)
+    (advice-remove 'sulgrevad--answer-line note)
+    (advice-remove 'sulgrevad--meet-answer note)
+    (check "what an earlier session has left gets no answer" (not (or (cdr line) (cdr answer))) line answer)
+    (signal-process (process) 'STOP)
+    (run-with-timer 0.5 nil (lambda ()
+                              (signal-process (process) 'CONT)
+                              (sulgrevad--lose "the user has left")
+                              (sulgrevad-start (list samhost) file)))
+    (check "a command doesn't wait for the next session" (with-timeout (60 nil) (sulgrevad-command ",p")))
+    (asked t (sulgrevad-quit))))
+
 (defun check-missing ()
   "A session that the host does not find is told of, and tried on: its folder may come a little later."
   (let ((file (made "n.txt" "text\n")) (skips-pauses nil) (away (path "away")))
@@ -784,9 +813,9 @@ exec \"$@\"" "sh") (relayed))))
     (if (equal what "long")
         (dolist (one '(check-long check-places check-signs)) (funcall one (append words (list samhost))))
       (dolist (one '(check-breaks check-many-breaks check-random check-stalled check-take check-failed-write check-replacing
-                                  check-recovery check-hidden check-one-buffer check-left check-visit check-anew check-missing check-paths
-                                  check-wishes check-keys check-steps check-no-room check-other-versions check-hostile check-passwords
-                                  check-sources))
+                                  check-recovery check-hidden check-one-buffer check-left check-visit check-anew check-numbers check-missing
+                                  check-paths check-wishes check-keys check-steps check-no-room check-other-versions check-hostile
+                                  check-passwords check-sources))
         (when (memq one (or (bound-and-true-p only) (list one)))
           (funcall one))))
     (princ (format "%d passed, %d failed\n" passed failed))))
