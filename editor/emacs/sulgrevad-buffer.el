@@ -219,7 +219,7 @@ With WHOLE look for it also where there is no sign of it.  It may signal
       (`(,start ,end ,to) (ignore-errors (sulgrevad--put start end (sulgrevad--shown sulgrevad--tag start to)))))))
 
 (defun sulgrevad--put-all ()
-  "Have the buffer, which is new or read anew, be the shown text."
+  "Have the buffer, which is new or of an earlier session, be the shown text."
   (let ((inhibit-read-only t) (inhibit-modification-hooks t) (buffer-undo-list t))
     (save-restriction
       (widen)

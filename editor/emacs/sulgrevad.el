@@ -418,6 +418,7 @@ It would replace no other program's text, or the user says so."
 (defun sulgrevad--write-contents ()
   "Have the host write the buffer, for `save-buffer'.
 What visits a file of this machine Emacs writes itself."
+  (sulgrevad--at-visit)                 ; the file's name may have been but set
   (unless buffer-file-name
     (sulgrevad-save)
     t))
@@ -426,6 +427,7 @@ What visits a file of this machine Emacs writes itself."
   "Have the buffer leave the session once it visits a file of this machine.
 So it is after `write-file'.  The host keeps its file and the text."
   (when (and buffer-file-name (sulgrevad--is-ours))
+    (unless (sulgrevad--is-whole sulgrevad--tag) (sulgrevad--settle "That")) ; signs are no text
     (setq sulgrevad--self nil)          ; it is Emacs that asks where it is killed
     (sulgrevad--let-go)
     (setq buffer-read-only nil)))
