@@ -291,6 +291,7 @@ At the client it is PLACE; it is of COUNT runes."
 (defun sulgrevad--is-left ()
   "Whether the buffer is as it was let go, and its text stands elsewhere, too."
   (and (eq sulgrevad--self (current-buffer)) (null sulgrevad--tag) (not sulgrevad--has-drifted)
+       (null buffer-file-name)          ; else it would be written there
        (eql sulgrevad--tick (buffer-chars-modified-tick))))
 
 (defun sulgrevad--update (is-idle)

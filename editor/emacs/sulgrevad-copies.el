@@ -4,7 +4,8 @@
 
 ;; What the host may not have while the line is lost, or when a buffer or the session goes, is kept here, in NAME.sam-here: in the folder in
 ;; which the session began, or in that for temporary files.  A later session tells of it where it shows the file, and M-x sulgrevad-recover
-;; takes it, compares or drops it.  The buffer of a session that is over is used again for the same file, unless it was changed since.
+;; takes it, compares or drops it.  The buffer of a session that is over is used again for the same file, unless it was changed
+;; since, or visits a file of this machine.
 
 ;;; Code:
 
