@@ -111,9 +111,11 @@ class Commands:
 
     def _cut_front(self) -> None:
         """Takes the front of a long command file out, up to what its window shows: one that is full would take no line any more."""
+        if not self.command.is_open or self.command.length <= MOST_KEPT:
+            return
         start, end = self.command.dot
         gone = min(self.command.length - LEAST_LEFT, self.command.top, start)
-        if self.command.length <= MOST_KEPT or gone <= 0:
+        if gone <= 0:
             return
         self.terminal.select(COMMAND, 0, gone)
         self.texts.replace(COMMAND, "")
