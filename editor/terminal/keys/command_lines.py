@@ -110,16 +110,11 @@ class Commands:
             self._cut_front()
 
     def _cut_front(self) -> None:
-        """Takes the front of a long command file out, up to what its window shows: one that is full would take no line any more."""
-        if not self.command.is_open or self.command.length <= MOST_KEPT:
-            return
-        start, end = self.command.dot
-        gone = min(self.command.length - LEAST_LEFT, self.command.top, start)
-        if gone <= 0:
-            return
-        self.terminal.select(COMMAND, 0, gone)
-        self.texts.replace(COMMAND, "")
-        self.terminal.select(COMMAND, start - gone, end - gone)
+        """Takes the front of a long command file out, up to what its window shows: one that is full would take no line any more. Where
+        something is asked of it, as to type a begun line again, the next line does it: that goes by the selection."""
+        window = self.command
+        if window.is_open and window.length > MOST_KEPT and not self.terminal.locked(COMMAND):
+            window.drop_front(window.length - LEAST_LEFT)
 
     def _meet_error(self, line: str, tag: int, before: int) -> bool:
         """Says what helps where the host didn't run a line. Returns whether other lines run in its place."""

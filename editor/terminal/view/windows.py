@@ -173,6 +173,21 @@ class Window:
         if grows and self.is_open and self._top > 0 and self._aim is None and len(self.layout().rows) < height:
             self._show_below(self.length, height - 1)
 
+    def drop_front(self, most: int) -> None:
+        """Takes at most so many runes out before what is selected and the line with which it begins: so what it shows stays."""
+        self._follow_dot()
+        length, (start, end), above = self.length, self.dot, 0 if self._aim is None else self.height * self.width
+        count = line_start(self.read, max(0, min(most, self.top - above, start)))
+        if count == 0:
+            return
+        self.texts.select(self.tag, 0, count)
+        try:
+            self.texts.replace(self.tag, "")
+        finally:
+            gone = length - self.length  # none where memory was out
+            self.texts.select(self.tag, start - gone, end - gone)
+            self._followed = self.dot
+
     # ---- What is shown
 
     def hear(self, changes: Changes) -> None:

@@ -2,7 +2,7 @@
 import random
 import time
 
-from .pairs import Pair, opened
+from .pairs import LONG, Pair, opened
 from .support import READ_AFTER, Session, expect, made, wait_for_text, wait_until
 
 
@@ -101,19 +101,58 @@ def check_small_command_window(folder):
 
 
 def check_long_command_window(folder):
-    """What lines print pushes the front out of a long command window, so it takes lines for ever; what it shows stays."""
-    pair, editor, key, text = opened(("x" * 99 + "\n") * 4000)
+    """What lines print pushes the front out of a long command window, so it takes lines for ever; what the user has copied stays."""
+    line = "x" * 99 + "\n"
+    pair, editor, key, text = opened(line * 4000)
+    window = editor.command
+    pair.press(key("Shift-Right"), key("^C"), key("Esc"))
     for run in range(4):
-        pair.press(key("Esc"), text("=\n"), text(",p\n"), key("Esc"))
-        pair.finish()
-        length, shown = editor.command.length, editor.command.read(editor.command.top, 99)
-        expect(length <= 500_000, f"after line {run} the command window has {length} characters")
-        expect(shown == "x" * 99, f"after line {run} it shows {shown!r}")
-    pair.press(key("Esc"), text("2p"), key("Left"), text("1"), key("Right"), text("\n"))
-    pair.finish()
-    end = editor.command.length
-    last = editor.command.read(end - 105, 105)
-    expect(last == "12p\n" + "x" * 99 + "\n" or last.endswith("x" * 99 + "\n"), f"it ends in {last!r}")
+        pair.press(text("=\n"), text(",p\n"))
+        expect(window.length <= 500_000, f"after line {run} the command window has {window.length} characters")
+        expect(pair.host.text(0).endswith(line * 2000), f"after line {run} it ends in {pair.host.text(0)[-120:]!r}")
+        shown = window.read(window.top, window.length - window.top)
+        expect(shown and shown in line * 99, f"after line {run} it shows {shown[:120]!r}")
+        expect(window.dot == (window.length, window.length), f"after line {run} the caret is at {window.dot} of {window.length}")
+        pair.check()
+    pair.press(text("2p"), key("Left"), text("1"), text("\n"))
+    expect(pair.host.text(0).endswith(f"{line}21p\n{line}"), f"the next line leads to {pair.host.text(0)[-120:]!r}")
+    expect(pair.host.snarf() == "x", f"what was copied is {pair.host.snarf()[:99]!r}")
+
+
+def after_keys(names, size, is_cut):
+    """How an editor stands after keys in its long command window, of which the front goes or not: what it shows, where the caret is, and
+    what else may not go by that; and how long the command window is."""
+    from terminal.keys import command_lines
+
+    pair, editor, key, text = opened(LONG, size=size)
+    window = editor.command
+    command_lines.MOST_KEPT, command_lines.LEAST_LEFT = 1_000_000, 20_000
+    pair.press(key("Shift-Right"), key("^C"), key("Esc"), text(",p\n"))
+    command_lines.MOST_KEPT = 30_000 if is_cut else 1_000_000
+    for name in names:
+        editor.take(text(name) if name == name.lower() else key(name))
+        if name[-1] != "p":  # else the next one comes at once
+            pair.finish()
+    pair.finish(3)
+    pair.check()
+    rows = [window.read(row.start, row.end - row.start) for row in window.layout().rows]
+    start, end = window.dot
+    last = window.read(start - 20, 20), end - start, window.length - end, pair.host.text(0)[-20:]
+    return (rows, pair.screen.cursor_of(editor), *last, pair.host.snarf(), pair.host.text(1)), window.length
+
+
+def check_front_of_the_command_window(folder):
+    """Without its front the command window shows what it would show with it, with the caret at the same place. A line that is begun stays,
+    also where a search runs before it; so do lines that wait, and what was copied."""
+    for names, goes in (
+        (("2,3p\n",), True), (("1,60p\n",), True), (("2,3p", "Left", "\n", "dra"), True), (("nonsense\n", ",x/foo/c/b/\n"), True),
+        (("$a/draft/", "Esc", "^S", "line 7", "\n"), False), (("$a/draft/", "Esc", "^S", "line 7", "\n", "Esc", "\n"), True),
+        (("2p", "\n3p", "\n4p", "\n", "dra"), True), (("Page Up", "^Home", "2p\n"), True),
+    ):  # fmt: skip
+        for size in ((60, 200), (20, 80)):
+            (whole, _), (stands, length) = (after_keys(names, size, is_cut) for is_cut in (False, True))
+            expect(stands == whole, f"{names}: it stands as {stands[:-1]}, wanted {whole[:-1]}")
+            expect((length < 21_000) == goes, f"{names}: the command window has {length} characters")
 
 
 def check_name_that_a_shell_reads(folder):
