@@ -492,7 +492,7 @@ class Editor(WindowLayout, KeyQueue, Actions):
             if menu.is_over and self.menu is menu:
                 self.menu = None
         if goes_on:
-            self._put_back(pressed)
+            self._put_back(pressed._replace(key=key))  # what stands behind that is back already
 
     def _act_in_help(self, pressed: Pressed) -> Optional[Input]:
         """What is pressed over the help. Returns what of it is for the windows."""

@@ -1,14 +1,15 @@
 """That nothing is lost: what was cut, another program's text, and what earlier sessions left; and what goes on without a host."""
 import hashlib
 import os
+import random
 import signal
 import time
 
 from checks import times_longer
 
-from .pairs import in_a_small_window, opened
+from .pairs import Pair, in_a_small_window, opened
 from .local_backup import Kept
-from .messages import NoteCode, aside
+from .messages import NoteCode, aside, hidden
 from .support import LINK, LONG_LOAD, SAMHOST, SAMHOST_WORD, SLOW_WORD, STATE, Session, expect, host_that, made, stat_of, wait_for_text
 from .support import wait_until
 
@@ -437,6 +438,20 @@ def check_left_of_another_host(folder):
     earlier = folder / STATE / "sulgrevad" / f"{hashlib.sha256(chr(0).join(words).encode()).hexdigest()[:16]}-d.txt.sam-here"
     earlier.write_text("earlier")
     expect(left("/there/d.txt") == [[str(earlier)]], "what an earlier release has written is not found")
+
+
+def check_text_over_what_is_left(folder):
+    """Several characters that come at once over the menu of what is left go to the window, each once, also where F9 waits for the host."""
+    for waits in (False, True):
+        pair = Pair(random.Random(1), ("one\n", "old\n"), names=["a.txt", "~~left~~ 1 + 2026-11-30 02:00:00"])
+        editor, key, text = pair.editor, pair.keys.Key, pair.keys.Text
+        editor.hear(hidden(2))
+        pair.finish(3)
+        for each in [key("^W")] * 2 * waits + [key("F9"), text("hello")]:
+            editor.take(each)
+        expect((editor.typed_ahead == "hello") == waits, f"F9 waits: {waits}: {editor.deferred} wait")
+        pair.finish()
+        expect(pair.host.text(1) == "helloone\n" and editor.menu is None, f"F9 waits: {waits}: the text is {pair.host.text(1)!r}")
 
 
 def check_leaving_is_asked_once(folder):
