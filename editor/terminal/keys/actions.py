@@ -295,7 +295,7 @@ class Actions(Commands, Moves):
             self._paste(self._snarfed)
         elif self.focus is self.command:
             self.terminal.paste_command()
-        else:
+        elif self._may_go(self.focus, f"{self.keys.of('paste')} again"):
             self.pasting = Pasting(self.focus.tag, *self.focus.dot)
             self.terminal.get_snarf()
 

@@ -121,6 +121,19 @@ def check_undo_not_loaded(folder):
         pair.check()
 
 
+def check_undo_of_a_paste_that_the_host_has(folder):
+    """So it is where only the host has what is pasted, as in a session that another terminal began."""
+    pair, editor, key, text = in_a_small_window()
+    pair.terminal.set_snarf("pasted")
+    pair.finish()
+    expect(pair.terminal.first_gap(1) is not None and not editor.knows_snarfed, "this test is wrong: all is loaded, or known")
+    for name, wanted in (("^A", LONG), ("^V", "pasted"), ("^Z", LONG), ("^R", "pasted")):
+        pair.press(key(name))
+        got = pair.host.text(1)
+        expect(got == wanted, f"{name}: the text is {got[:60]!r}; it tells {editor.message!r}")
+    pair.check()
+
+
 def check_undo_of_all_kinds(folder):
     """Random changes in small windows over long texts, undone to the start and redone to the end."""
     for seed in range(6):
