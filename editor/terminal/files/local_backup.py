@@ -149,7 +149,7 @@ class Left:
         target = os.path.realpath(path)
         if _is_own(target):
             self._noted.setdefault(os.path.basename(path).partition("-")[0], []).append(target)
-        else:
+        elif os.path.isdir(os.path.dirname(target)):  # else its folder is away, and may be mounted later
             with contextlib.suppress(OSError):
                 os.unlink(path)  # what it led to is gone
 

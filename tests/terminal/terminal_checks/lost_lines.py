@@ -440,6 +440,26 @@ def check_left_of_another_host(folder):
     expect(left("/there/d.txt") == [[str(earlier)]], "what an earlier release has written is not found")
 
 
+def check_left_in_a_folder_that_is_away(folder):
+    """What was written here is offered again once its folder is back, though that was away at a start in between. The note of a text goes
+    only where that was removed from a folder that is there."""
+    from terminal.files import local_backup
+
+    os.environ["XDG_STATE_HOME"], name = str(folder / STATE), "/there/a.txt"
+    disk, away = folder / "disk", folder / "away"
+    disk.mkdir()
+    os.chdir(disk)
+    path = local_backup.keep(name, "text")
+    os.chdir(folder)
+    for moved in (disk, away):
+        moved.rename(away if moved is disk else disk)
+        found, wanted = local_backup.left([name])[name], [path] if moved is away else []
+        expect(found == wanted, f"its folder is there: {moved is away}: it finds {found}")
+    os.unlink(path)
+    links = lambda: list((folder / STATE / "sulgrevad").iterdir())  # noqa: E731
+    expect(links() and local_backup.left([name])[name] == [] == links(), f"it was removed: there are {links()}")
+
+
 def check_text_over_what_is_left(folder):
     """Several characters that come at once over the menu of what is left go to the window, each once, also where F9 waits for the host."""
     for waits in (False, True):
