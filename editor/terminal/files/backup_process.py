@@ -59,8 +59,10 @@ class BackupProcess:
             with contextlib.suppress(Exception):  # it is tried again, and at the end it is told
                 text, path = text_of(), self.paths.get(which)
                 if path is not None:
-                    local_backup.write_again(path, text)
-                elif text and (path := local_backup.keep(which[1], text)) is not None:
+                    path = local_backup.renew(which[1], path, text)
+                elif text:
+                    path = local_backup.keep(which[1], text)
+                if path is not None:
                     self.paths[which] = path
 
     def finish(self) -> None:

@@ -108,6 +108,19 @@ def write_again(path: str, text: str) -> str:
     return path
 
 
+def renew(name: str, path: str, text: str) -> Optional[str]:
+    """The same; where that can't be, as its disk is full or away, the text is kept elsewhere, and the old file goes. Returns the path; None
+    where none could be written, and the old file stays as it is."""
+    try:
+        return write_again(path, text)
+    except OSError:
+        elsewhere = keep(name, text)
+    if elsewhere is not None:
+        with contextlib.suppress(OSError):
+            os.unlink(path)
+    return elsewhere
+
+
 def _first_free(front: str, make: Callable[[str], None]) -> Optional[str]:
     """Makes something under the first name that is free of those that begin so. Returns which; None where that can't be."""
     for at in range(1, MOST_NAMES + 1):
