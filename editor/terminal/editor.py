@@ -312,6 +312,8 @@ class Editor(WindowLayout, KeyQueue, Actions):
         self.notes.forget_the_line()
         for line in self.kept_here or [f"what is loaded can still be read. {self.keys.of('leave')} leaves"]:
             self.notes.keep(2, f"{why}; {line}")
+        if self.keeping.has_failed:
+            self.notes.keep(2, f"{self.keys.of('leave')} tries again to write here what could not be written: make room first")
 
     def _meet_files(self) -> None:
         """Shows the first file, and a file that was made; drops the windows of files that were closed."""

@@ -198,11 +198,13 @@ class Session:
         return None
 
     def _keep_here(self, has_ended_well: bool) -> None:
-        """Writes here what nobody has saved, unless that was done when the host was lost, and what was typed after that."""
+        """Writes here what nobody has saved, unless that was done when the host was lost, and what was typed after that. What could not be
+        written then is tried again."""
         keeping, kept = self.editor.keeping, self.editor.kept_here
         try:
             with contextlib.suppress(SamError):
-                say_all(keeping.keep_here(self.editor.way.has_all, has_ended_well) if kept is None else kept)
+                told = keeping.keep_here(self.editor.way.has_all, has_ended_well) if kept is None else kept
+                say_all(keeping.keep_again(told))
         finally:
             say_all(keeping.keep_late())
 

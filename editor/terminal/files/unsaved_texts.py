@@ -1,7 +1,7 @@
 """What became of the texts: which could not be written, which the host has saved aside, and which have to be written here."""
 import os
 from collections import Counter
-from typing import Dict, List, Optional, Tuple, Union
+from typing import Callable, Dict, List, Optional, Tuple, Union
 
 from . import local_backup
 from .backup_process import BackupProcess
@@ -29,7 +29,9 @@ class UnsavedTexts:
 
     def __init__(self, editor):
         self.editor, self.terminal = editor, editor.terminal
-        self.is_hopeless = False  # a text could not be saved anywhere
+        self._is_lost_there = False  # the host could save a text nowhere
+        # What could not be written here, by file, name and text: what was told of it, and what tries it again.
+        self._failed: Dict[Tuple[Optional[int], str, str], Tuple[str, Callable[[], str]]] = {}
         self.typed_late = ""  # what was typed when the host was lost already, or memory was out for it
         self.has_left = False  # a text was written here
         self.is_cut_saved = False  # the host has saved what was cut last
@@ -42,6 +44,16 @@ class UnsavedTexts:
         self.put_off: Dict[int, bool] = {}  # files that are written when the line is back; whether the user is sure, where that is asked
         self._copies = BackupProcess()  # what was written here while the line was lost
         self._here_at: Optional[float] = None  # when
+
+    @property
+    def has_failed(self) -> bool:
+        """Whether something could not be written here, which is tried again at the end."""
+        return bool(self._failed)
+
+    @property
+    def is_hopeless(self) -> bool:
+        """Whether a text could not be saved anywhere."""
+        return self._is_lost_there or self.has_failed
 
     def name(self, tag: int) -> str:
         return self.terminal.name(tag) or f"unnamed-{tag}"
@@ -81,7 +93,7 @@ class UnsavedTexts:
         if note.kind == NoteKind.SAVED:
             self._answered(note)
         elif note.kind == NoteKind.LOST:
-            self.is_hopeless = True
+            self._is_lost_there = True
             self._saved.pop(tag, None)
         elif note.kind == NoteKind.NOT_SAVED:
             self._meet_failure(note)
@@ -135,28 +147,24 @@ class UnsavedTexts:
         a file has that text already."""
         if has_all and has_ended_well:
             self._dropped.clear()
-        lines = []
-        while self._dropped:  # each goes once it is written
-            tag, (name, text) = next(iter(self._dropped.items()))
-            lines.append(self._kept(name, text, tag))
-            del self._dropped[tag]
+        lines = [self._kept(name, text, tag) for tag, (name, text) in [*self._dropped.items()]]
         for tag in self.editor.open_tags:
             is_saved = has_all and (has_ended_well or self._saved.get(tag) == self._changes[tag])
             if self.editor.is_changed(tag) and not is_saved:
-                try:
-                    text = local_backup.loaded(self.terminal, tag)
-                    lines.append(self._kept(self.name(tag), text, tag))
-                except Exception as error:  # whatever it is, the other texts are written
-                    self.is_hopeless = True
-                    lines.append(f"the text of {self.name(tag)} is lost: {error}")
-                    continue
-                self._saved[tag] = self._changes[tag]
+                lines.append(self._kept_text(tag, self.name(tag)))
         lines += [self.keep_typed(text, tag) for tag, text in self._typed_ahead().items()]
         begun = "" if has_ended_well else self.editor.begun_line()
         lines += [self._kept(local_backup.COMMAND_LINE, begun)] if begun else []
         lines += self._kept_cut(has_all and self.is_cut_saved)
         self._copies.drop()
         return lines
+
+    def keep_again(self, told: List[str]) -> List[str]:
+        """Tries again what could not be written here: there may be room by now, or memory. Returns lines that were told before, with what
+        is to be told of that in the place of what was."""
+        failed = [*self._failed.values()]
+        stale = [line for line, _ in failed]
+        return [line for line in told if line not in stale] + [again() for _, again in failed]
 
     def _typed_ahead(self) -> Dict[int, str]:
         """What was typed in each file and still waits. What may go to any is told with the file that was used last."""
@@ -242,13 +250,36 @@ class UnsavedTexts:
         text, self.typed_late = self.typed_late, ""
         return [self.keep_typed(text)] if text else []
 
-    def _kept(self, name: str, text: str, tag: Optional[int] = None, what: str = "") -> str:
-        what = what or f"what is loaded of {name}".replace("\0", "")
-        path = self._copies.take((tag, name))
+    def _kept(self, name: str, text: str, tag: Optional[int] = None, what: str = "", old: Optional[str] = None) -> str:
+        """Writes a text here, in the place of an older copy where there is one. Returns what to tell of it."""
+        what, which = what or f"what is loaded of {name}".replace("\0", ""), (tag, name, text)
+        old = self._copies.take((tag, name)) or old
         try:
-            path = local_backup.keep(name, text) if path is None else local_backup.write_again(path, text)
+            path = local_backup.keep(name, text) if old is None else local_backup.renew(name, old, text)
         except Exception:  # out of memory, say: the other texts are written
             path = None
-        self.is_hopeless = self.is_hopeless or path is None
-        self.has_left = self.has_left or path is not None
-        return f"{what} is here in {path}" if path else f"{what} is lost: no file can be written here"
+        if path is None:
+            line = f"{what} is lost: no file can be written here"
+            return self._note_failed(which, line, old, lambda: self._kept(name, text, tag, what, old))
+        self._failed.pop(which, None)
+        self.has_left = True
+        if tag is not None:
+            self._saved[tag] = self._changes[tag]
+            self._dropped.pop(tag, None)
+        return f"{what} is here in {path}"
+
+    def _kept_text(self, tag: int, name: str, old: Optional[str] = None) -> str:
+        """The same of an open file. Where its text can't be read an older copy stays."""
+        try:
+            old = self._copies.take((tag, name)) or old
+            text = local_backup.loaded(self.terminal, tag)
+        except Exception as error:  # whatever it is, the other texts are written
+            return self._note_failed((tag, name, ""), f"the text of {name} is lost: {error}", old, lambda: self._kept_text(tag, name, old))
+        self._failed.pop((tag, name, ""), None)
+        return self._kept(name, text, tag, old=old)
+
+    def _note_failed(self, which: Tuple[Optional[int], str, str], line: str, old: Optional[str], again: Callable[[], str]) -> str:
+        """A text could not be written here. Returns what to tell of it, with the older copy where there is one."""
+        line += f"; {old} has it as it was before" if old else ""
+        self._failed[which] = line, again
+        return line

@@ -1,16 +1,18 @@
 """That no text is dropped: what is written here when the host is gone or can't have saved all, and what else may lose one."""
 import contextlib
+import errno
 import io
 import os
 import random
+import shutil
 import signal
 import sys
 import time
 from pathlib import Path
 
 from .messages import aside, hidden, lost, not_saved
-from .pairs import Pair, in_a_small_window, opened
-from .support import LINK, SAMHOST, SECONDS, Failed, Session, change_two, expect, made, stat_of, wait_for_text, wait_until
+from .pairs import Pair, in_a_small_window, opened, with_line
+from .support import LINK, SAMHOST, SECONDS, STATE, Failed, Session, change_two, expect, made, stat_of, wait_for_text, wait_until
 
 
 class Kept:
@@ -263,6 +265,106 @@ def check_no_own_folder(folder):
         os.chdir(folder)
 
 
+# ---- Copies of a lost line
+
+
+@contextlib.contextmanager
+def full(*places):
+    """The disks of some folders are full meanwhile."""
+
+    def refused(file):
+        path = Path(os.readlink(f"/proc/self/fd/{file}"))
+        if any(place in path.parents for place in places):
+            raise OSError(errno.ENOSPC, "No space left on device")
+        before(file)
+
+    before, os.fsync = os.fsync, refused
+    try:
+        yield
+    finally:
+        os.fsync = before
+
+
+def with_a_copy(folder, name):
+    """An editor whose line is lost, in a folder of this name in which a copy of its text is. Answers that path, too."""
+    os.environ["XDG_STATE_HOME"] = str(folder / STATE)
+    place = folder / name
+    place.mkdir()
+    os.chdir(place)
+    pair, editor, key, text, line = with_line("a\n")
+    editor.take(text("x"))
+    pair.settle()
+    line.is_broken, line.has_all = True, False
+    copy_here(editor)
+    copy = place.resolve() / "file0.sam-here"
+    wait_for_text(copy, "xa\n")
+    editor.take(text("y"))
+    pair.settle()
+    return pair, editor, copy
+
+
+def copy_here(editor):
+    """Has the copies be written, as is done every ten seconds."""
+    editor.keeping.write_here()
+    editor.keeping._copies.finish()
+
+
+def elsewhere(folder):
+    """The texts in the user's own folder."""
+    return [path.read_text() for path in (folder / STATE / "sulgrevad").iterdir() if path.is_file() and not path.is_symlink()]
+
+
+def check_copy_whose_folder_takes_nothing(folder):
+    """A copy that was made while the line was lost is renewed elsewhere where its disk is full by then, or its folder is away: while the
+    line is lost, and at the end. The old one goes."""
+    for at_end, is_away in ((False, False), (True, False), (False, True), (True, True)):
+        place = folder / f"{at_end}{is_away}"
+        place.mkdir()
+        told = f"at the end: {at_end}, away: {is_away}"
+        pair, editor, copy = with_a_copy(place, "here")
+        if is_away:
+            shutil.rmtree(copy.parent)
+        with full(copy.parent):
+            if not at_end:
+                copy_here(editor)
+                expect(elsewhere(place) == ["xya\n"], f"{told}: elsewhere are {elsewhere(place)}")
+            lines = editor.keeping.keep_here(False)
+        expect(elsewhere(place) == ["xya\n"] and not copy.exists(), f"{told}: {elsewhere(place)}, the old one: {copy.exists()}")
+        (kept,) = [path for path in (place / STATE / "sulgrevad").iterdir() if path.is_file()]
+        expect(lines == [f"what is loaded of file0 is here in {kept}"], f"{told}: it tells {lines}")
+        expect(not editor.keeping.is_hopeless, f"{told}: the status says that a text is lost")
+
+
+def check_copy_that_nothing_replaces(folder):
+    """Where no disk has room at the end the copy of some seconds before stays, and is told; once one has, the last text takes its place."""
+    pair, editor, copy = with_a_copy(folder, "here")
+    with full(Path("/")):
+        copy_here(editor)
+        expect(copy.read_text() == "xa\n", "the old copy is gone")
+        editor.lose("the host is gone")
+    lines = [line for _, line in editor.notes.unread]
+    expect(any("is lost" in line and f"; {copy} has it as it was before" in line for line in lines), f"it tells {lines}")
+    expect(copy.read_text() == "xa\n", "the old copy is gone")
+    expect(editor.keeping.keep_again(editor.kept_here) == [f"what is loaded of file0 is here in {copy}"], f"it tells {editor.kept_here}")
+    expect([path.name for path in copy.parent.iterdir()] == [copy.name] and copy.read_text() == "xya\n", f"it has {copy.read_text()!r}")
+
+
+def check_copy_of_an_unreadable_text(folder):
+    """The same where the text can't be read at the end."""
+
+    def broken(*_):
+        raise MemoryError("no room")
+
+    pair, editor, copy = with_a_copy(folder, "here")
+    pair.terminal.runes = broken
+    editor.lose("the host is gone")
+    del pair.terminal.runes
+    wanted = f"the text of file0 is lost: no room; {copy} has it as it was before"
+    expect(editor.kept_here == [wanted] and copy.read_text() == "xa\n", f"it tells {editor.kept_here}; the copy is there: {copy.exists()}")
+    expect(editor.keeping.keep_again(editor.kept_here) == [f"what is loaded of file0 is here in {copy}"], "it isn't tried again")
+    expect([path.name for path in copy.parent.iterdir()] == [copy.name] and copy.read_text() == "xya\n", f"it has {copy.read_text()!r}")
+
+
 # ---- The end
 
 
@@ -303,11 +405,12 @@ def edited(pair, link):
 
 
 def ended(pair, taken, lines, status):
-    """What is written here at the end of a session."""
+    """What is written here at the end of a session, with what it tells, and its status."""
     before = signal.getsignal(signal.SIGINT)
-    with Kept() as kept, contextlib.redirect_stderr(io.StringIO()):
-        edited(pair, Ending(pair, taken, lines, status))._end()
+    with Kept() as kept, contextlib.redirect_stderr(io.StringIO()) as told:
+        kept.status = edited(pair, Ending(pair, taken, lines, status))._end()
     signal.signal(signal.SIGINT, before)
+    kept.told = told.getvalue()
     return kept
 
 
@@ -364,6 +467,33 @@ def check_fault_while_it_is_lost(folder):
         editor.lose("the host is gone")
     editor.keeping.keep_here = keep_here
     ended(pair, 0, (), None).expect([("file0", "xa\n")], "a fault")
+
+
+def check_what_failed_is_tried_again(folder):
+    """What could not be written here when the host was lost is written at the end, once there is room: texts, also of a closed file, what
+    was typed, cut and begun. What was written then is not written again, and nothing is told to be lost that isn't."""
+    texts = [("file0", "xa\n"), ("file1", "yb\n"), ("file2", "zc\n"), ("typed", "waits"), ("command", "$a/draft"), ("cut", "d")]
+    for failing in (["file0", "file1", "file2", "typed", "command", "cut"], ["file1"], ["typed", "cut"]):
+        pair, editor, key, text = opened("a\n", "b\n", "c\n", "de\n")
+        for window, rune in zip(editor.files[:3], "xyz"):
+            editor.go_to(window)
+            pair.press(text(rune))
+        pair.press(key("^K"), key("^K"))
+        editor.go_to(editor.window_of(4))
+        pair.press(key("Shift-Right"), key("^X"), key("^W"), key("Esc"), text("$a/draft"))
+        editor.go_to(editor.window_of(2))
+        pair.terminal.look(2)
+        editor.take(text("waits"))
+        with Kept() as kept:
+            keep = kept.local_backup.keep
+            kept.local_backup.keep = lambda name, text: None if name.lstrip("\0") in failing else keep(name, text)
+            editor.lose("the host is gone")
+        kept.expect([each for each in texts if each[0] not in failing], f"{failing} fail")
+        expect(any("^Q tries again" in line for _, line in editor.notes.unread), f"it tells {editor.notes.unread}")
+        kept = ended(pair, 0, (), None)
+        kept.expect([each for each in texts if each[0] in failing], f"{failing} failed")
+        expect("is lost" not in kept.told and kept.told.count("is here in /somewhere") == len(texts), f"it tells {kept.told}")
+        expect(kept.status == 3, f"the status is {kept.status}")
 
 
 def check_fault_in_one_text(folder):
