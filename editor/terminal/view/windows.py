@@ -174,10 +174,10 @@ class Window:
             self._show_below(self.length, height - 1)
 
     def drop_front(self, most: int) -> None:
-        """Takes at most so many runes out before what is selected and the line with which it begins: so what it shows stays."""
+        """Takes at most so many runes out before what is selected and what it shows, which stays: so it takes whole rows of a line."""
         self._follow_dot()
-        length, (start, end), above = self.length, self.dot, 0 if self._aim is None else self.height * self.width
-        count = line_start(self.read, max(0, min(most, self.top - above, start)))
+        length, (start, end) = self.length, self.dot
+        count = row_start(self.read, min(most, self.top, start), self.width)
         if count == 0:
             return
         self.texts.select(self.tag, 0, count)

@@ -119,15 +119,21 @@ def check_long_command_window(folder):
     expect(pair.host.snarf() == "x", f"what was copied is {pair.host.snarf()[:99]!r}")
 
 
-def after_keys(names, size, is_cut):
+ONE_LINE = "日y\tz" * 10_000 + "\n"
+
+
+def after_keys(names, file, size, is_cut):
     """How an editor stands after keys in its long command window, of which the front goes or not: what it shows, where the caret is, and
     what else may not go by that; and how long the command window is."""
     from terminal.keys import command_lines
 
-    pair, editor, key, text = opened(LONG, size=size)
+    pair, editor, key, text = opened(file, size=size)
     window = editor.command
     command_lines.MOST_KEPT, command_lines.LEAST_LEFT = 1_000_000, 20_000
     pair.press(key("Shift-Right"), key("^C"), key("Esc"), text(",p\n"))
+    if file == ONE_LINE:  # of which little is loaded, so it isn't known where its rows begin
+        pair.terminal.load(0, 0, window.length)
+        pair.press(key("^Home"), key("^End"))
     command_lines.MOST_KEPT = 30_000 if is_cut else 1_000_000
     for name in names:
         editor.take(text(name) if name == name.lower() else key(name))
@@ -142,15 +148,16 @@ def after_keys(names, size, is_cut):
 
 
 def check_front_of_the_command_window(folder):
-    """Without its front the command window shows what it would show with it, with the caret at the same place. A line that is begun stays,
-    also where a search runs before it; so do lines that wait, and what was copied."""
-    for names, goes in (
-        (("2,3p\n",), True), (("1,60p\n",), True), (("2,3p", "Left", "\n", "dra"), True), (("nonsense\n", ",x/foo/c/b/\n"), True),
-        (("$a/draft/", "Esc", "^S", "line 7", "\n"), False), (("$a/draft/", "Esc", "^S", "line 7", "\n", "Esc", "\n"), True),
-        (("2p", "\n3p", "\n4p", "\n", "dra"), True), (("Page Up", "^Home", "2p\n"), True),
+    """Without its front the command window shows what it would show with it, with the caret at the same place, also in a long line. A line
+    that is begun stays, also where a search runs before it; so do lines that wait, and what was copied."""
+    for names, file, goes in (
+        (("2,3p\n",), LONG, True), (("1,60p\n",), LONG, True), (("2,3p", "Left", "\n", "dra"), LONG, True),
+        (("nonsense\n", ",x/foo/c/b/\n"), LONG, True), (("2p", "\n3p", "\n4p", "\n", "dra"), LONG, True),
+        (("$a/draft/", "Esc", "^S", "line 7", "\n"), LONG, False), (("Page Up", "^Home", "2p\n"), LONG, True),
+        (("$a/draft/", "Esc", "^S", "line 7", "\n", "Esc", "\n"), LONG, True), (("=\n",), ONE_LINE, True), ((",p\n",), ONE_LINE, True),
     ):  # fmt: skip
-        for size in ((60, 200), (20, 80)):
-            (whole, _), (stands, length) = (after_keys(names, size, is_cut) for is_cut in (False, True))
+        for size in ((60, 200), (20, 50)):
+            (whole, _), (stands, length) = (after_keys(names, file, size, is_cut) for is_cut in (False, True))
             expect(stands == whole, f"{names}: it stands as {stands[:-1]}, wanted {whole[:-1]}")
             expect((length < 21_000) == goes, f"{names}: the command window has {length} characters")
 
