@@ -29,6 +29,16 @@ TYPED, COMMAND_LINE, CUT = f"{OF_NO_FILE}typed", f"{OF_NO_FILE}command", f"{OF_N
 LOOKS = (256, 64)  # characters beside a gap that are looked at, to find what it had
 MOST_PLACES, MOST_COMPARED = 10_000, 10_000_000  # places that are looked at, and characters there; after more it is not found
 
+
+def _current_folder() -> str:
+    """This folder; empty where it is away."""
+    try:
+        return os.getcwd()
+    except OSError:
+        return ""
+
+
+began_in = _current_folder()  # it may be away later, and what is written elsewhere then is offered once it is back
 host: Tuple[str, ...] = ()  # the host's command
 BEHIND_HOST = "--undo"  # stands there in the number of a text: by another word what a release up to 0.1 kept here would not be found
 
@@ -224,9 +234,7 @@ def read(path: str) -> Optional[str]:
 
 def _number(name: str) -> str:
     """A number of the host's command, the folder from which its names may be seen, and a file's name."""
-    place = ""
-    with contextlib.suppress(OSError):  # a folder that is gone
-        place = "" if name.startswith("/") else os.getcwd()
+    place = "" if name.startswith("/") else _current_folder() or began_in
     import hashlib  # it takes long to be read in, and few sessions need it
 
     return hashlib.sha256("\0".join((*host, BEHIND_HOST, place, name)).encode("utf-8", "surrogateescape")).hexdigest()[:16]

@@ -287,10 +287,13 @@ def full(*places):
 
 def with_a_copy(folder, name):
     """An editor whose line is lost, in a folder of this name in which a copy of its text is. Answers that path, too."""
+    from terminal.files import local_backup
+
     os.environ["XDG_STATE_HOME"] = str(folder / STATE)
     place = folder / name
     place.mkdir()
     os.chdir(place)
+    local_backup.began_in = os.getcwd()
     pair, editor, key, text, line = with_line("a\n")
     editor.take(text("x"))
     pair.settle()
@@ -316,7 +319,9 @@ def elsewhere(folder):
 
 def check_copy_whose_folder_takes_nothing(folder):
     """A copy that was made while the line was lost is renewed elsewhere where its disk is full by then, or its folder is away: while the
-    line is lost, and at the end. The old one goes."""
+    line is lost, and at the end. The old one goes, and the new one is offered where its session began."""
+    from terminal.files import local_backup
+
     for at_end, is_away in ((False, False), (True, False), (False, True), (True, True)):
         place = folder / f"{at_end}{is_away}"
         place.mkdir()
@@ -332,6 +337,10 @@ def check_copy_whose_folder_takes_nothing(folder):
         expect(elsewhere(place) == ["xya\n"] and not copy.exists(), f"{told}: {elsewhere(place)}, the old one: {copy.exists()}")
         (kept,) = [path for path in (place / STATE / "sulgrevad").iterdir() if path.is_file()]
         expect(lines == [f"what is loaded of file0 is here in {kept}"], f"{told}: it tells {lines}")
+        copy.parent.mkdir(exist_ok=True)
+        os.chdir(copy.parent)
+        found = local_backup.left(["file0"])
+        expect(found == {"file0": [str(kept)]}, f"{told}: once its folder is back it is offered {found}")
         expect(not editor.keeping.is_hopeless, f"{told}: the status says that a text is lost")
 
 
