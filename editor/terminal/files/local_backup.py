@@ -152,6 +152,15 @@ def _note(name: str, path: str) -> None:
             return
 
 
+def _has_lost(folder: str, note: str) -> bool:
+    """Whether the text of which a note tells was removed from a folder: that has changed since. Else the folder is away, and may be mounted
+    later; or another one is in its place, into which that is mounted."""
+    try:
+        return os.stat(folder).st_mtime_ns >= os.lstat(note).st_mtime_ns
+    except OSError:
+        return False
+
+
 class Left:
     """The files of this machine that have texts from earlier sessions: those that were noted, and those in this folder of which nothing
     was."""
@@ -172,7 +181,7 @@ class Left:
         target = os.path.realpath(path)
         if _is_own(target):
             self._noted.setdefault(os.path.basename(path).partition("-")[0], []).append(target)
-        elif os.path.isdir(os.path.dirname(target)):  # else its folder is away, and may be mounted later
+        elif _has_lost(os.path.dirname(target), path):
             with contextlib.suppress(OSError):
                 os.unlink(path)  # what it led to is gone
 

@@ -441,8 +441,8 @@ def check_left_of_another_host(folder):
 
 
 def check_left_in_a_folder_that_is_away(folder):
-    """What was written here is offered again once its folder is back, though that was away at a start in between. The note of a text goes
-    only where that was removed from a folder that is there."""
+    """What was written here is offered again once its folder is back, though that was away at a start in between, or was an empty one into
+    which a disk is mounted. The note of a text goes only where that was removed from the folder."""
     from terminal.files import local_backup
 
     os.environ["XDG_STATE_HOME"], name = str(folder / STATE), "/there/a.txt"
@@ -451,10 +451,18 @@ def check_left_in_a_folder_that_is_away(folder):
     os.chdir(disk)
     path = local_backup.keep(name, "text")
     os.chdir(folder)
-    for moved in (disk, away):
-        moved.rename(away if moved is disk else disk)
-        found, wanted = local_backup.left([name])[name], [path] if moved is away else []
-        expect(found == wanted, f"its folder is there: {moved is away}: it finds {found}")
+    for is_mounted in (False, True):
+        disk.rename(away)
+        if is_mounted:
+            disk.mkdir()
+            os.utime(disk, (0, 0))
+        found = local_backup.left([name])[name]
+        expect(found == [], f"its folder is away: it finds {found}")
+        if is_mounted:
+            disk.rmdir()
+        away.rename(disk)
+        found = local_backup.left([name])[name]
+        expect(found == [path], f"its folder is back, mounted: {is_mounted}: it finds {found}")
     os.unlink(path)
     links = lambda: list((folder / STATE / "sulgrevad").iterdir())  # noqa: E731
     expect(links() and local_backup.left([name])[name] == [] == links(), f"it was removed: there are {links()}")
