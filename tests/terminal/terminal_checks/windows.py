@@ -162,6 +162,30 @@ def check_front_of_the_command_window(folder):
             expect((length < 21_000) == goes, f"{names}: the command window has {length} characters")
 
 
+def check_front_without_memory(folder):
+    """Where memory is out for it the front of the command window stays, and so does the caret: what is typed next stands behind it."""
+    from sulgrevad import NoMemory, Status
+    from terminal.keys import command_lines
+
+    def short(runes):
+        if runes == "":
+            raise NoMemory(Status.NO_MEMORY)
+        type_command(runes)
+
+    pair, editor, key, text = opened(LONG)
+    command_lines.MOST_KEPT, command_lines.LEAST_LEFT = 30_000, 20_000
+    type_command, pair.terminal.type_command = pair.terminal.type_command, short
+    pair.press(key("Esc"), text(",p\n"))
+    length = editor.command.length
+    expect(length > 30_000 and editor.command.dot == (length, length), f"the caret is at {editor.command.dot} of {length}")
+    pair.press(text("2p"))
+    pair.terminal.type_command = type_command
+    pair.press(text("\n"))
+    expect(pair.host.text(0).endswith("line 2999 foo\n2p\nline 1 foo\n"), f"the next line leads to {pair.host.text(0)[-60:]!r}")
+    expect(editor.command.length < 21_000, f"the command window has {editor.command.length} characters")
+    pair.check()
+
+
 def check_name_that_a_shell_reads(folder):
     """A file whose name the host's shell reads otherwise than it was given is no folder: it is shown at once, and takes what was typed."""
     for asked_for, is_menu in ((["'my file'"], False), (["file*"], True)):
