@@ -73,9 +73,23 @@ void drop_copy(struct copy *copy)
     forget_copy(copy);
 }
 
+/* Whether a copy is none of the host's own any more, on a disk that is still there: a copy that went with its disk, or that can't be looked
+ * at, nobody has taken away. */
+static bool is_taken_away(const struct copy *copy)
+{
+    struct stat now;
+    bool is_there = lstat(copy->path, &now) == 0, is_gone = !is_there && errno == ENOENT;
+    char *folder = is_gone ? folder_of(copy->path) : NULL;
+
+    if (folder != NULL)
+        is_there = stat(*folder == '\0' ? "." : folder, &now) == 0;
+    free(folder);
+    return is_there && now.st_dev == copy->device && !is_own(copy);
+}
+
 bool is_seen_to(const struct copy *copy, const struct text *text)
 {
-    return copy->path != NULL && !is_own(copy) && is_same(copy->content, content_of(text));
+    return copy->path != NULL && is_taken_away(copy) && is_same(copy->content, content_of(text));
 }
 
 /* What the text of a file is called in lines and in names of copies, in memory of its own: by its path, or where it has none by its

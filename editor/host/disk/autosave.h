@@ -48,7 +48,7 @@ void forget_copy(struct copy *copy);
 void drop_copy(struct copy *copy);
 
 /* Whether a text stood whole in a copy that somebody took away since: he has seen to it. So a host whose line died unnoticed does not bring
- * back what another session has written or dropped long since. */
+ * back what another session has written or dropped long since. A copy that went with its disk nobody took away. */
 bool is_seen_to(const struct copy *copy, const struct text *text);
 
 /* The document whose own copy stands at a path; NULL where there is none. */
@@ -79,7 +79,7 @@ void drop_closed(struct session *session, uint64_t place);
 void free_document(struct document *document);
 
 /* At the end: saves all changed texts, and says where they are. Where nobody is there any more (`is_alone`), what a copy had that somebody
- * took away is not saved again. Returns whether none is lost. */
+ * took away is not saved again; `is_alone` is false where a power cut may have taken it. Returns whether none is lost. */
 bool save_last(struct session *session, bool is_alone);
 
 #endif

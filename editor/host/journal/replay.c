@@ -266,6 +266,7 @@ enum replay_fault begin_again(struct session *session)
     sam_status head;
     int error = open_journal(stay, &all, &head);
 
+    session->is_made_again = true;
     replay.fault = error != 0 ? REPLAY_UNREADABLE : fault_of_head(head);
     if (replay.fault == REPLAY_OK && !make_session(session))
         replay.fault = REPLAY_SHORT;

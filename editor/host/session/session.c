@@ -112,7 +112,7 @@ int open_session(struct session *session, char **paths, int count, const struct 
 
 int close_session(struct session *session, enum ending ending)
 {
-    bool is_alone = ending != LEFT && !session->due.is_waiting;
+    bool is_alone = ending != LEFT && !session->due.is_waiting && !session->is_made_again;
     bool is_saved = save_last(session, is_alone);
 
     if (ending == LEFT)

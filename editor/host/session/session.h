@@ -29,8 +29,9 @@ struct session {
     bool is_cut_off;    /* what came last could not be taken, so a file may count as written that is not */
     struct due due;
     mode_t mode_of_new_files;
-    char *lost_folder; /* the one in which it began, where that is gone and the session only ends; else NULL */
-    struct stay *stay; /* the link, and how the session is found again */
+    char *lost_folder;  /* the one in which it began, where that is gone and the session only ends; else NULL */
+    bool is_made_again; /* this process has made it of its journal, and doesn't know what has happened to its copies before */
+    struct stay *stay;  /* the link, and how the session is found again */
 };
 
 /* What the words say beside the files. */

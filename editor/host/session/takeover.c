@@ -99,6 +99,7 @@ static void hand_documents(struct session *session, struct session *heir)
         closed->tag = 0;
     session->closed = NULL;
     heir->due = session->due;
+    heir->is_made_again = session->is_made_again;
     heir->mode_of_new_files = session->mode_of_new_files;
     heir->is_met = true;
 }

@@ -14,7 +14,7 @@ import sulgrevad
 from checks import GIVEN_UP, SECONDS, Skipped, expect, times_longer, wait_until
 from link_model import HELLO_BYTES, Read, What, read_whole, spelled
 
-from .journals import UP, kill, kinds_of, records_of, typed
+from .journals import CUT, UP, kill, kinds_of, records_of, typed
 from .line import Staying, home_of, is_running, pid_of, state_of, with_calls
 from .support import IDLE, IS_ROOT, LATE, NOBODY, SAMHOST, WRITE, expect_equal, front_of, made, names_in, on_file, text_of
 
@@ -476,6 +476,47 @@ def check_stays_ended_without_its_folder(folder):
         expect(f"{place}/a.txt was not written; its text is in {copies['a.txt']}" in ended.stderr, f"it says {ended.stderr!r}")
         expect_equal(names_in(folder), ["a.txt", "elsewhere", "state"], "what is in the folder")
         expect_equal(text_of(folder / "a.txt"), "another\n", "the other file")
+
+
+def check_stays_ended_though_its_copies_are_gone(folder):
+    """A session that another samhost only ends saves a text whose copy is gone: a power cut may have emptied the folder, so nobody need have
+    taken it away. So it does where the whole folder is gone, and where a new session ends it."""
+    for at, (is_folder_gone, is_new) in enumerate(((False, False), (True, False), (False, True))):
+        place = folder / str(at)
+        place.mkdir()
+        made(place, a="one\n", b="other\n")
+        state = folder / f"state{at}"
+        state.mkdir()
+        with Staying(place, "a.txt", options=("--left",)) as session:
+            session.terminal.select(1, 0, 3)
+            session.terminal.cut(1)
+            session.type("two\n")
+            copies = place / "a.txt.sam-saved", place / "cut.sam-saved"
+            wait_until(lambda: all(copy.exists() for copy in copies), "there are no copies", IDLE + LATE)
+            journal = home_of(place, session.name) / "journal"
+            wait_until(lambda: CUT in kinds_of(journal.read_bytes()), "the journal doesn't have the copies")
+            kill(place, session)
+            session.drop()
+            for copy in copies:
+                copy.unlink()
+            state_of(place).rename(state / "sulgrevad")
+            session.environment["XDG_STATE_HOME"] = str(state)
+            home = state / "sulgrevad" / session.name
+            if is_folder_gone:
+                shutil.rmtree(place)
+            words = ("--end", session.name)
+            if is_new:
+                when = time.time() - 73 * 3600
+                os.utime(home / "journal", (when, when))
+                words = ("--serve", OWN, "b.txt")
+            ended = subprocess.run([SAMHOST, *words], cwd=folder if is_folder_gone else place, env=session.environment, capture_output=True,
+                                   timeout=GIVEN_UP, stdin=subprocess.DEVNULL)  # fmt: skip
+            wait_until(lambda: not home.exists(), f"its folder stays, and it says {ended.stderr!r}")
+            names = {name: place / f"{name}.sam-saved" for name in ("a.txt", "cut")}
+            if is_folder_gone:
+                names = {name: state / "sulgrevad" / f"{front_of(place / name)}.sam-saved" for name in names}
+            texts = {name: text_of(copy) for name, copy in names.items()}
+            expect_equal(texts, {"a.txt": "\ntwo\n", "cut": "one"}, f"{at}: after {ended.stderr!r} the copies")
 
 
 def check_stays_where_its_folder_comes_later(folder):

@@ -334,6 +334,14 @@ def with_mount(folder, mount):
     return words
 
 
+def without_mount(session, place):
+    """Takes from a host what was mounted for it alone."""
+    if shutil.which("nsenter") is None:
+        raise Skipped("no nsenter")
+    words = ("nsenter", "-m", "-t", str(session.process.pid), "umount", session.folder / place)
+    subprocess.run(words, check=True, timeout=GIVEN_UP)
+
+
 def names_of(session):
     return [session.terminal.name(tag) for tag in session.terminal.files() if tag != 0]
 
