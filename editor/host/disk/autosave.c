@@ -5,6 +5,7 @@
  */
 #define _XOPEN_SOURCE 700
 #include <errno.h>
+#include <fcntl.h>
 #include <stdlib.h>
 #include <string.h>
 #include <sys/stat.h>
@@ -225,11 +226,27 @@ bool is_changed(struct session *session, uint16_t tag)
     return sam_server_is_dirty(session->server, tag, &is_dirty) != SAM_OK || is_dirty || session->documents[tag].is_unmarked;
 }
 
+/* Whether the disk has what a file seems to have. After a write that failed no sync tells: the system may count as written what it could
+ * not write. */
+static bool is_on_disk(const struct document *document, const char *path)
+{
+    char *end = NULL;
+    const struct known *known = end_of_links(path, &end) == 0 ? find_known(document, end) : NULL;
+    int file = known != NULL && known->content.kind == NOT_SURE ? -1 : open(path, O_RDONLY | O_NONBLOCK | O_CLOEXEC);
+    bool is_synced = file >= 0 && fsync(file) == 0;
+
+    if (file >= 0)
+        close(file);
+    free(end);
+    return is_synced;
+}
+
 bool stands_in_its_file(struct session *session, uint16_t tag)
 {
     int error;
     char *path = path_of(session, tag, &error);
-    bool stands = path != NULL && owner_at(session, path) == NULL && is_same(content_at(path), content_of(&session->text));
+    bool stands = path != NULL && owner_at(session, path) == NULL && is_same(content_at(path), content_of(&session->text)) &&
+                  is_on_disk(&session->documents[tag], path);
 
     free(path);
     return stands;

@@ -71,11 +71,11 @@ static void look_at(struct session *session, uint16_t tag, const char *path)
     struct stat status;
     char *end = NULL;
     const struct known *known = end_of_links(path, &end) == 0 ? find_known(document, end) : NULL;
-    bool is_there = known != NULL && stat(end, &status) == 0;
+    bool is_there = known != NULL && stat(end, &status) == 0, is_sure = known != NULL && known->content.kind != NOT_SURE;
 
     if (known != NULL && !is_there && errno == ENOENT && known->content.kind != NOT_THERE)
         look_at_gone(session, tag, path);
-    if (is_there && has_new_marks(watch, &status)) {
+    if (is_there && has_new_marks(watch, &status) && is_sure) {
         bool was_told = watch->is_told && is_same(watch->told, known->content);
         if (!was_told && !is_same(content_at(end), known->content)) {
             watch->is_told = true;

@@ -4,7 +4,7 @@
  * something from the file (its other names, its owner, its access list), it is written in place. What it was is kept in a file of its
  * own meanwhile.
  */
-#define _XOPEN_SOURCE 700
+#define _GNU_SOURCE
 #include <errno.h>
 #include <fcntl.h>
 #include <stdio.h>
@@ -142,15 +142,16 @@ static int open_folder(const char *path)
     return file;
 }
 
-/* Has the disk keep the names of the folder of a path. Not every kind of file system can. */
-static void sync_folder(const char *path)
+/* Has the disk keep the name of a path, which an open file has got; where its folder can't be opened, by all of that file's disk. Not every
+ * kind of file system can, and one that is read only by now has nothing to keep. */
+static int sync_folder(const char *path, int file)
 {
-    int file = open_folder(path);
+    int folder = open_folder(path);
+    int error = (folder >= 0 ? fsync(folder) : syncfs(file)) == 0 ? 0 : errno;
 
-    if (file >= 0) {
-        fsync(file);
-        close(file);
-    }
+    if (folder >= 0)
+        close(folder);
+    return error == EINVAL || error == ENOTSUP || error == EROFS ? 0 : error;
 }
 
 /* Locks an open folder, unless another host has it locked. Not every kind of file system can. */
@@ -237,9 +238,11 @@ static int make_temporary(const char *path, char **temporary, int *file)
     return error;
 }
 
-/* Removes what could not take its place. */
-static void drop_temporary(char *temporary, bool is_placed)
+/* Closes a file that the disk has, if it is open, and removes what could not take its place. */
+static void drop_temporary(char *temporary, int file, bool is_placed)
 {
+    if (file >= 0)
+        close(file);
     if (temporary != NULL && !is_placed)
         unlink(temporary);
     free(temporary);
@@ -287,20 +290,20 @@ static int give_first(give_name *give, const char *path, const char *name, char 
     return EEXIST;
 }
 
-/* Makes a file of a text beside a path, which it is to take, and marks it as a copy. Hands out where it is. */
-static int make_copy(const struct text *text, const char *path, const char *like, struct copy *copy, char **temporary)
+/* Makes a file of a text beside a path, which it is to take, and marks it as a copy. Hands out where it is, and leaves it open. */
+static int make_copy(const struct text *text, const char *path, const char *like, struct copy *copy, char **temporary, int *file)
 {
     struct stat made;
-    int file, error = make_temporary(path, temporary, &file);
+    int error = make_temporary(path, temporary, file);
 
     if (error != 0)
         return error;
-    error = fill(file, text);
+    error = fill(*file, text);
     if (error == 0)
-        error = take_part_of_access(file, like);
-    if (error == 0 && fstat(file, &made) != 0)
+        error = take_part_of_access(*file, like);
+    if (error == 0 && fstat(*file, &made) != 0)
         error = errno;
-    error = close_written(file, sync_written(file, error));
+    error = sync_written(*file, error);
     if (error == 0) {
         copy->device = made.st_dev;
         copy->inode = made.st_ino;
@@ -314,13 +317,19 @@ static int make_copy(const struct text *text, const char *path, const char *like
 static int keep_as(const struct text *text, const char *front, const char *suffix, const char *like, struct copy *copy)
 {
     char *name = formatted("%s%s", front, suffix), *temporary = NULL;
-    int error = name == NULL ? ENOMEM : make_copy(text, front, like, copy, &temporary);
+    int file = -1, error = name == NULL ? ENOMEM : make_copy(text, front, like, copy, &temporary, &file);
 
     if (error == 0)
         error = give_first(move_to_free, temporary, name, &copy->path);
-    if (error == 0)
-        sync_folder(copy->path);
-    drop_temporary(temporary, error == 0);
+    bool is_placed = error == 0;
+    if (is_placed)
+        error = sync_folder(copy->path, file);
+    if (is_placed && error != 0) { /* a power cut may take it, so it is made elsewhere */
+        unlink(copy->path);
+        free(copy->path);
+        copy->path = NULL;
+    }
+    drop_temporary(temporary, file, is_placed);
     free(name);
     return error;
 }
@@ -368,15 +377,18 @@ int keep_again(const struct text *text, struct copy *copy)
 {
     struct copy new = {.path = copy->path};
     char *temporary = NULL;
-    int error = make_copy(text, copy->path, copy->path, &new, &temporary);
+    int file = -1, error = make_copy(text, copy->path, copy->path, &new, &temporary, &file);
 
     if (error == 0 && rename(temporary, copy->path) != 0)
         error = errno;
-    if (error == 0) {
+    bool is_placed = error == 0;
+    if (is_placed) {
         *copy = new;
-        sync_folder(copy->path);
+        error = sync_folder(copy->path, file);
+        if (error != 0) /* which text the disk has is not known, so it is saved once more */
+            copy->content.kind = NOT_SURE;
     }
-    drop_temporary(temporary, error == 0);
+    drop_temporary(temporary, file, is_placed);
     return error;
 }
 
@@ -430,13 +442,14 @@ static void drop_theirs(struct request *request)
 static int put_new(struct request *request, const struct stat *old)
 {
     char *temporary = NULL;
+    bool is_placed = false;
     int file, error = make_temporary(request->path, &temporary, &file);
 
     if (error == 0) {
         error = fill(file, request->text); /* before its mode is set: a write takes some of it */
         if (error == 0)
             error = old != NULL ? take_access(file, old) : fchmod(file, request->mode) != 0 ? errno : 0;
-        error = close_written(file, sync_written(file, error));
+        error = sync_written(file, error);
     }
     if (error == 0) {
         int folder = lock_folder(request->path);
@@ -446,10 +459,12 @@ static int put_new(struct request *request, const struct stat *old)
         if (error != 0)
             drop_theirs(request);
         unlock_folder(folder);
+        is_placed = error == 0;
     }
-    if (error == 0)
-        sync_folder(request->path);
-    drop_temporary(temporary, error == 0);
+    if (is_placed)
+        error = sync_folder(request->path, file);
+    request->is_unsure = is_placed && error != 0;
+    drop_temporary(temporary, file, is_placed);
     return error;
 }
 
@@ -493,7 +508,8 @@ static int write_over(struct request *request, int file, const struct text *old)
     if (error != 0 && error != IS_CHANGED && fill_again(file, old) != 0)
         request->old = kept.path;
     unlock_folder(folder);
-    if (request->old != NULL)
+    request->is_unsure = request->old != NULL;
+    if (request->is_unsure)
         return error;
     if (is_theirs && error == 0) {
         request->theirs = kept.path;

@@ -33,6 +33,7 @@ struct request {
     struct content found; /* out, at IS_CHANGED: what the file has */
     char *old;            /* out: the path of what the file was, where it is broken now; the caller's. Else NULL */
     char *theirs;         /* out: the path of what another program has written there; the caller's. Else NULL */
+    bool is_unsure;       /* out: the disk may have another text than the file seems to have */
 };
 
 /* Puts a text into a file, whole or not at all. IS_CHANGED where the file has what is not known: then it stays as it is. */

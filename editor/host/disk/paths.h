@@ -16,7 +16,7 @@ struct text {
 /* What a file has, by which a change is found: the hash of its bytes, or where they can't be read that of its marks (device, inode,
  * time of change). */
 struct content {
-    enum { NOT_THERE, READ, NOT_READ } kind;
+    enum { NOT_THERE, READ, NOT_READ, NOT_SURE } kind; /* not sure: a write has failed, and the disk may have anything */
     uint64_t hash, len;
 };
 

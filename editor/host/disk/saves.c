@@ -103,11 +103,13 @@ static struct content expected_at(const struct document *document, const struct 
 /* ---- Writing ---- */
 
 /* After an attempt to write: notes what the file has, and lets go of the copy of a text that is written. Where memory is
- * out, a file is not noted, and is taken for another program's at the next write. */
+ * out, a file is not noted, and is taken for another program's at the next write; so is one of which the disk may have anything. */
 static void remember_put(struct document *document, const struct request *request, int error, bool is_copy)
 {
     if (error == 0)
         (void)remember_content(document, request->path, content_of(request->text));
+    else if (request->is_unsure)
+        (void)remember_content(document, request->path, (struct content){.kind = NOT_SURE});
     else if (error == IS_CHANGED && is_same(request->found, request->known)) /* another file with the same text */
         (void)remember_content(document, request->path, request->found);
     else if (error == IS_CHANGED)

@@ -37,6 +37,8 @@ static struct content take_content(struct record *record)
         content.kind = READ;
     else if (kind == NOT_READ)
         content.kind = NOT_READ;
+    else if (kind == NOT_SURE)
+        content.kind = NOT_SURE;
     content.hash = take_number(record);
     content.len = take_number(record);
     return content;

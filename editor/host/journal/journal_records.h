@@ -14,7 +14,7 @@ struct session;
 
 /* The form of the records. It grows with each change of what they say, so that no samhost takes up a session whose records it would read
  * otherwise: tests/host/host_checks/journals.py has a sum of the code that decides. */
-#define RECORDS_FORM 5
+#define RECORDS_FORM 6
 
 /* How a session began. */
 struct start {

@@ -1,13 +1,16 @@
 """Writes that fail: what is said, and where the text is then."""
+import contextlib
 import os
+import re
 import resource
+import shutil
 from pathlib import Path
 
-from checks import expect, wait_until
+from checks import Skipped, expect, wait_until
 
 from .support import (
-    LATE, LONGEST_UNSAVED, Session, expect_equal, expect_line, expect_only, front_of, made, names_in, own_copy, text_of,
-    with_mount,
+    IDLE, IS_ROOT, LATE, LONGEST_UNSAVED, NOBODY, Session, as_nobody, expect_equal, expect_line, expect_only, front_of, made, names_in,
+    own_copy, text_of, with_mount, without_mount,
 )  # fmt: skip
 
 
@@ -115,6 +118,50 @@ def check_full_disk(folder):
         expect_equal(session.told(), [], "what it says")
         expect_equal(session.end(), 0, "the status")
     expect_only(folder, "full")
+
+
+def check_name_that_the_disk_lacks(folder):
+    """A text whose file has its name only until the power fails is not written: it is saved, and the next write is taken. So is a copy."""
+    if shutil.which("strace") is None:
+        raise Skipped("no strace")
+    (path,) = made(folder, a="one\n")
+    for when, said in ((2, ["samhost: not written: a.txt: Input/output error; its text is in a.txt.sam-saved"]), ("2..4", None)):
+        failing = ("strace", "-qq", "-o", "/dev/null", "-e", f"inject=fsync:error=EIO:when={when}")  # first of the file, then of the folder
+        with Session(folder, "a.txt", prefix=failing) as session:
+            session.type("two\n")
+            session.write()
+            copy = folder / "a.txt.sam-saved" if said else own_copy(folder, "a.txt")
+            wanted = said or [f"samhost: not written: a.txt: Input/output error; its text is in {copy}"]
+            expect_equal((session.told(), text_of(copy)), (wanted, text_of(path)), f"{when}: what it says, and the copy")
+            session.let_pass(IDLE + LATE)
+            expect(copy.exists(), f"{when}: the copy is gone")
+            session.write()
+            expect_equal(session.told(), [], f"{when}: what it says of the next write")
+            expect_equal(session.end(), 0, "the status")
+        expect_only(folder, "a.txt")
+
+
+def check_name_in_a_folder_that_can_t_be_read(folder):
+    """Where a folder can't be opened all of its disk is synced once a file has its name, and so it is with a copy."""
+    if shutil.which("strace") is None:
+        raise Skipped("no strace")
+    made(folder)
+    prefix, place, calls = as_nobody(folder), folder / "place", folder / "temporary" / "calls"
+    place.mkdir()
+    (place / "a.txt").write_text("one\n")
+    if IS_ROOT:
+        for path in (place, place / "a.txt"):
+            os.chown(path, NOBODY, NOBODY)
+    place.chmod(0o300)
+    traced = ("strace", "-qq", "-o", calls, "-e", "trace=rename,link,syncfs")
+    with Session(folder, "place/a.txt", prefix=(*prefix, *traced)) as session:
+        session.type("two\n")
+        session.write()
+        session.type("three\n")
+        expect_equal(session.end(), 0, "the status")
+    place.chmod(0o700)
+    found = re.findall(r"^(\w+)\(.*\) += 0$", calls.read_text(), re.MULTILINE)
+    expect_equal(found, ["rename", "syncfs", "link", "syncfs"], "the calls")
 
 
 def check_read_only_disk(folder):

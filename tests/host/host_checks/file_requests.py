@@ -6,7 +6,7 @@ import sulgrevad
 from checks import GIVEN_UP, expect, wait_until
 
 from .journals import kill, typed
-from .line import Staying
+from .line import Staying, pid_of, with_calls
 from .support import SAMHOST, expect_equal, made, text_of
 
 
@@ -82,6 +82,25 @@ def check_read_anew_and_not_put_in(folder):
         wanted = (sulgrevad.NoteCode.NO_SUCH_FILE, "there is no such file")
         expect_equal((refused.code, refused.text), wanted, "what it says of another tag")
         expect_equal(text_of(path), "other\n", "the file")
+        session.leave()
+
+
+def check_read_anew_and_not_on_the_disk(folder):
+    """A text that was read anew, and that another program wrote, counts as written only once the disk has it."""
+    (path,) = made(folder, a="one\n")
+    with Staying(folder, "a.txt", options=("--left",)) as session:
+        for fails in (True, False):
+            path.write_text(f"other {fails}\n")
+            answer = asked(session, "RELOAD", 7 + fails, tag=1)
+            session.terminal.edit(1, 0, session.terminal.len(1), f"other {fails}\n")
+            session.settle()
+            session.put_note("RELOADED", tag=1, number=answer.number)
+            session.settle()
+            before = len(session.of("SAVED", tag=1))
+            with with_calls(pid_of(folder, session.name), *(["inject=fsync:error=EIO"] if fails else ["trace=fsync"])):
+                session.write()
+            told = len(session.of("SAVED", tag=1)) - before, len(session.of("NOT_SAVED", tag=1, code=sulgrevad.NoteCode.FAILED))
+            expect_equal(told, (0, 1) if fails else (1, 1), f"{fails}: how often it is written, and how often not, in {session.messages}: it")
         session.leave()
 
 

@@ -7,7 +7,7 @@ from checks import Skipped, expect
 from sulgrevad import NoteKind
 
 from .support import (
-    AGE, IS_ROOT, NOBODY, OPEN, SAMHOST, WRITE, Session, as_nobody, expect_equal, expect_line, expect_only, files_below, made,
+    AGE, IDLE, IS_ROOT, LATE, NOBODY, OPEN, SAMHOST, WRITE, Session, as_nobody, expect_equal, expect_line, expect_only, files_below, made,
     names_in, names_of, on_file, own_copy, run_host, text_of, typed, with_mount,
 )  # fmt: skip
 
@@ -360,6 +360,36 @@ def check_broken_in_place(folder):
         expect_equal(session.end(), 0, "the status")
     expect_equal(text_of(folder / "a.txt.sam-old"), "one\n", "what the file was")
     expect_equal(text_of(folder / "a.txt.sam-saved"), "one\ntwo\n", "the copy")
+
+
+def check_broken_in_place_unseen(folder):
+    """So it is where the disk has failed behind a write, and the system shows what it could not bring there: no look at the file tells."""
+    if shutil.which("strace") is None:
+        raise Skipped("no strace")
+    (path,) = made(folder, a="one\n")
+    os.link(path, folder / "b.txt")
+    copy = folder / "a.txt.sam-saved"
+    # The third sync is that of the file, behind those of what it was and its name; the third write gives back what it was.
+    failing = ("strace", "-qq", "-o", "/dev/null", "-e", "inject=fsync:error=EIO:when=3", "-e", "inject=pwrite64:error=EIO:when=3")
+    with Session(folder, "a.txt", prefix=failing) as session:
+        session.type("two\n")
+        session.write()
+        lines = session.told()
+        expect_equal(text_of(path), "one\ntwo\n", "this test is wrong: the file")
+        expect_line(lines, r"a.txt is broken; what it was is in a.txt.sam-old")
+        expect_line(lines, r"not written: a.txt: Input/output error; its text is in a.txt.sam-saved")
+        session.let_pass(IDLE + LATE)
+        session.type("x")
+        session.let_pass(IDLE + LATE)
+        end = session.terminal.len(1)
+        session.terminal.edit(1, end - 1, end, "")
+        session.settle()
+        session.let_pass(IDLE + LATE)
+        expect_equal(text_of(copy), "one\ntwo\n", "the copy")
+        session.write()
+        expect_equal((session.told(), copy.exists()), ([], False), "what it says of the next write, and whether the copy stays")
+        expect_equal(session.end(), 0, "the status")
+    expect_equal(text_of(path), "one\ntwo\n", "the file")
 
 
 def check_without_links(folder):
