@@ -339,13 +339,33 @@ static void put_last_message(struct session *session, int status)
         record_ended(session, status);
 }
 
+/* Does and saves what the terminal has sent behind the texts that were saved for the end, before it hears that this has come. So it does
+ * where another samhost may have been killed before that. What can't be saved the journal keeps. */
+static void save_late(struct session *session, uint64_t *saved)
+{
+    struct stay *stay = session->stay;
+    uint64_t received = count_of(session, sam_server_received);
+    bool is_over = false;
+
+    if (stay->ending == FAULT || received == *saved || (sam_server_is_done(session->server, &is_over) == SAM_OK && is_over))
+        return;
+    *saved = received;
+    (void)take_turns(session);
+    if (!save_changed(session) && (writes_records(&stay->journal) || begin_journal_anew(session))) {
+        stay->is_kept = true;
+        record_ended(session, STATUS_LOST);
+    }
+    record_copies(session);
+    session->due.is_waiting = false;
+}
+
 /* Puts the last message, and keeps it until the terminal has acknowledged it: for a while where that has left, and for a moment where it
  * may not know. */
 static void say_the_end(struct session *session, const sigset_t *mask, int status, bool has_left)
 {
     struct stay *stay = session->stay;
     bool was_signalled = is_signalled(), was_to_end = stay->is_to_end;
-    uint64_t wanted = 0;
+    uint64_t wanted = 0, saved = stay->has_ended ? UINT64_MAX : count_of(session, sam_server_received);
     int tries = 0;
     bool is_awaited = has_left || (stay->has_streams && !was_signalled);
     int64_t until = now() + (is_awaited ? LONGEST_END : stay->line >= 0 ? UNASKED_END : 0);
@@ -356,6 +376,7 @@ static void say_the_end(struct session *session, const sigset_t *mask, int statu
     while (stay->is_named && now() < until && is_signalled() == was_signalled && stay->is_to_end == was_to_end) {
         put_last_message(session, status);
         take_no_more(session);
+        save_late(session, &saved);
         send_all(session);
         if (wanted == 0 && has_sent_all(session))
             wanted = count_of(session, sam_server_put_count);

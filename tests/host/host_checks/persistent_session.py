@@ -519,6 +519,30 @@ def check_stays_ended_though_its_copies_are_gone(folder):
             expect_equal(texts, {"a.txt": "\ntwo\n", "cut": "one"}, f"{at}: after {ended.stderr!r} the copies")
 
 
+def check_stays_ended_while_somebody_types(folder):
+    """What is typed once the texts are saved for the end, before the terminal has heard of it, is saved, too: it is acknowledged. Where it is
+    written the write is done."""
+    for at, writes in enumerate((False, True)):
+        place = folder / str(at)
+        place.mkdir()
+        made(place, a="one\n")
+        with typed(place) as session:
+            with subprocess.Popen([SAMHOST, "--end", session.name], cwd=place, env=session.environment) as ending:
+                session.carry(lambda: session.of("ENDED"), "it doesn't say that it ends")
+                session.terminal.select(1, 0, 0)
+                session.terminal.type(1, "late\n")
+                if writes:
+                    session.terminal.write(1)
+                session.send()
+                session.carry(lambda: session.link.acknowledged == session.link.put_count, "it isn't acknowledged")
+                session.link.acknowledge()
+                session.give()
+                expect_equal(ending.wait(GIVEN_UP), 0, "the status of --end")
+            expect_gone(place, session)
+        texts = [text_of(place / name) for name in ("a.txt", "a.txt.sam-saved")]
+        expect_equal(texts, ["late\none\ntwo\n", None] if writes else ["one\n", "late\none\ntwo\n"], "the file and its copy")
+
+
 def check_stays_where_its_folder_comes_later(folder):
     """Where the folder in which a session began isn't there yet, as before it is mounted, the relay says so and ends without an answer, so
     that the terminal tries again; once it is there the session goes on."""
