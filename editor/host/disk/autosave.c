@@ -74,6 +74,15 @@ void drop_copy(struct copy *copy)
     forget_copy(copy);
 }
 
+void replace_copy(struct copy *copy, const struct copy *newer)
+{
+    if (newer->is_temporary && newer->device != copy->device)
+        forget_copy(copy);
+    else
+        drop_copy(copy);
+    *copy = *newer;
+}
+
 /* Whether a copy is none of the host's own any more, on a disk that is still there: a copy that went with its disk, or that can't be looked
  * at, nobody has taken away. */
 static bool is_taken_away(const struct copy *copy)
@@ -117,10 +126,8 @@ static int save_aside(struct session *session, uint16_t tag)
     char *name = name_of(session, tag);
     int error = name == NULL ? ENOMEM : keep(&session->text, name, name, SAVED, &copy);
     free(name);
-    if (error == 0) {
-        drop_copy(&session->documents[tag].aside); /* an older text that could not be replaced */
-        *aside = copy;
-    }
+    if (error == 0)
+        replace_copy(aside, &copy); /* an older text, where there is no room for this one */
     return error;
 }
 

@@ -47,6 +47,10 @@ void forget_copy(struct copy *copy);
 /* Removes the copy of a text that stands elsewhere by now, where it is the host's own. */
 void drop_copy(struct copy *copy);
 
+/* Puts a newer copy in the place of one. The older one goes, where it is the host's own; but it stays where the newer one may be in memory
+ * alone, since a power cut would leave neither. */
+void replace_copy(struct copy *copy, const struct copy *newer);
+
 /* Whether a text stood whole in a copy that somebody took away since: he has seen to it. So a host whose line died unnoticed does not bring
  * back what another session has written or dropped long since. A copy that went with its disk nobody took away. */
 bool is_seen_to(const struct copy *copy, const struct text *text);

@@ -93,10 +93,8 @@ static int secure_cut(struct session *session)
     char *name = from_folder(session, CUT);
     int error = name == NULL ? ENOMEM : keep(text, name, NULL, SAVED, &copy);
     free(name);
-    if (error == 0) {
-        drop_copy(aside);
-        *aside = copy;
-    }
+    if (error == 0)
+        replace_copy(aside, &copy);
     return error;
 }
 

@@ -5,7 +5,8 @@
 
 #include <stdbool.h>
 
-enum { OWN_FOLDERS = 3 }; /* where copies may be that can't stand beside their file, the best first */
+/* Where copies may be that can't stand beside their file, the best first. All but the first are for temporary files. */
+enum { OWN_FOLDERS = 3 };
 
 /* One of these folders, counted from 0, with the slash at its end, in memory of its own. It is made where `makes` says so. It has to be the
  * user's own, and nobody else's to read. */

@@ -364,6 +364,7 @@ int keep(const struct text *text, const char *name, const char *like, const char
         int found = front_at(which, name, &front);
         int kept = found != 0 ? found : keep_as(text, front, suffix, which == 0 ? like : NULL, copy);
         free(front);
+        copy->is_temporary = which > 1;
         if (kept == 0)
             return 0;
         is_short |= kept == ENOMEM;
@@ -375,7 +376,7 @@ int keep(const struct text *text, const char *name, const char *like, const char
 
 int keep_again(const struct text *text, struct copy *copy)
 {
-    struct copy new = {.path = copy->path};
+    struct copy new = {.path = copy->path, .is_temporary = copy->is_temporary};
     char *temporary = NULL;
     int file = -1, error = make_copy(text, copy->path, copy->path, &new, &temporary, &file);
 

@@ -21,6 +21,7 @@ struct copy {
     ino_t inode;
     struct timespec written;
     struct content content;
+    bool is_temporary; /* it is in a folder for temporary files, which may be in memory alone */
 };
 
 /* A text that is to stand in a file. */

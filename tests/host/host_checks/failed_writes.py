@@ -120,6 +120,40 @@ def check_full_disk(folder):
     expect_only(folder, "full")
 
 
+def check_full_disk_keeps_an_older_copy(folder):
+    """Where a later text has room only in a folder for temporary files, which a power cut may empty, the older copy stays; so it is with what
+    was cut."""
+    made(folder)
+    (folder / "disk").mkdir()
+    mount = "mount -t tmpfs -o size=256k none disk && printf 'one two\\n' >disk/a.txt && cd disk"
+    environment = {"XDG_STATE_HOME": str(folder / "disk" / "state")}
+    with Session(folder, "a.txt", prefix=with_mount(folder, mount), options=("--left",), environment=environment) as session:
+        inside, own = Path(f"/proc/{session.process.pid}/cwd"), folder / "temporary" / f"sulgrevad-{os.geteuid()}"
+        older = {name: inside / f"{name}.sam-saved" for name in ("a.txt", "cut")}
+        newer = {name: own / f"{front_of(folder / 'disk' / name)}.sam-saved" for name in older}
+
+        def cut(end):
+            session.terminal.select(1, 0, end)
+            session.terminal.cut(1)
+            session.settle()
+
+        cut(3)
+        wait_until(older["cut"].exists, "what was cut is not saved", IDLE + LATE)
+        with open(inside / "filler", "wb", buffering=0) as filler, contextlib.suppress(OSError):
+            while filler.write(bytes(4096)):
+                pass
+        cut(4)
+        wait_until(newer["a.txt"].exists, "the text is not saved elsewhere", IDLE + LATE)
+        session.let_pass(0.2)
+        texts = [{name: text_of(copy) for name, copy in copies.items()} for copies in (newer, older)]
+        expect_equal(texts, [{"a.txt": "\n", "cut": " two"}, {"a.txt": " two\n", "cut": "one"}], "the newer copies, and the older ones")
+        (inside / "filler").unlink()
+        session.write()
+        expect_equal((session.told(), text_of(inside / "a.txt")), ([], "\n"), "what it says, and the file")
+        expect(not newer["a.txt"].exists(), "the copy of a text that is written stays")
+        session.end("exit")
+
+
 def check_name_that_the_disk_lacks(folder):
     """A text whose file has its name only until the power fails is not written: it is saved, and the next write is taken. So is a copy."""
     if shutil.which("strace") is None:
