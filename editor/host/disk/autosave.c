@@ -164,6 +164,15 @@ static void free_closed(struct closed *closed)
     free(closed);
 }
 
+static int keep_closed(struct session *session, const struct closed *closed, struct copy *copy)
+{
+    char *name = from_folder(session, closed->name);
+    int error = name == NULL ? ENOMEM : keep(&closed->text, name, name, SAVED, copy);
+
+    free(name);
+    return error;
+}
+
 /* Tries the texts again that could not be saved when their files were closed. What can't be saved is held on; the last time it is lost, but
  * that a journal keeps it. Returns whether all are saved. */
 static bool save_closed(struct session *session, bool is_last)
@@ -174,10 +183,10 @@ static bool save_closed(struct session *session, bool is_last)
 
     while (*next != NULL) {
         struct closed *closed = *next;
-        struct copy copy;
+        struct copy copy = {0};
         int error, tries = 0;
         do
-            error = keep(&closed->text, closed->name, closed->name, SAVED, &copy);
+            error = keep_closed(session, closed, &copy);
         while (is_last && is_tried_again(error, &tries));
         if (error == 0)
             tell_aside(closed->tag, closed->name, copy.path);

@@ -519,6 +519,29 @@ def check_stays_ended_though_its_copies_are_gone(folder):
             expect_equal(texts, {"a.txt": "\ntwo\n", "cut": "one"}, f"{at}: after {ended.stderr!r} the copies")
 
 
+def check_stays_ended_with_a_closed_text_without_its_folder(folder):
+    """The text of a closed file that could not be saved isn't saved beside other files either, where the session's folder is gone."""
+    place = folder / "place"
+    place.mkdir()
+    made(place, a="one\n")
+    with Staying(place, "a.txt") as session:
+        with with_calls(pid_of(place, session.name), "inject=pwrite64:error=ENOSPC"):
+            session.type("two\n")
+            session.terminal.close(1)
+            session.settle()
+            kill(place, session)
+        session.abandon()
+        kept = folder / "state"
+        state_of(place).parent.rename(kept)
+        shutil.rmtree(place)
+        environment = {**session.environment, "XDG_STATE_HOME": str(kept), "TMPDIR": str(kept)}
+        words = [SAMHOST, "--end", session.name]
+        ended = subprocess.run(words, cwd=folder, env=environment, capture_output=True, text=True, timeout=GIVEN_UP)
+        copy = kept / "sulgrevad" / f"{front_of(place / 'a.txt')}.sam-saved"
+        expect_equal((ended.returncode, names_in(folder)), (0, ["state"]), f"after {ended.stderr!r} the status, and what is in the folder")
+        expect_equal(text_of(copy), "one\ntwo\n", f"after {ended.stderr!r} the copy")
+
+
 def check_stays_ended_while_somebody_types(folder):
     """What is typed once the texts are saved for the end, before the terminal has heard of it, is saved, too: it is acknowledged. Where it is
     written the write is done."""
