@@ -15,6 +15,8 @@ const char *cause(int error)
         return "another program changed it, and the next write replaces it";
     case IS_THERE:
         return "it is there already, and the next write replaces it";
+    case IS_GONE:
+        return "it is gone, perhaps with its disk, and the next write makes it anew";
     case NO_NAME:
         return "it has no name yet, or one that no file can have";
     case NOT_WRITTEN:
@@ -60,6 +62,7 @@ enum sam_note_code code_of(int error)
         {NO_NAME, SAM_NOTE_NO_NAME},
         {IS_CHANGED, SAM_NOTE_CHANGED_SINCE},
         {IS_THERE, SAM_NOTE_EXISTS_ALREADY},
+        {IS_GONE, SAM_NOTE_NOT_FOUND},
         {NOT_WRITTEN, SAM_NOTE_TAKEN_UNSAVED},
         {NO_FILE, SAM_NOTE_NO_SUCH_FILE},
         {EIO, SAM_NOTE_FAILED},

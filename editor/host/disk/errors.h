@@ -10,6 +10,7 @@
 #define NOT_REGULAR EINVAL     /* it is there and is no regular file */
 #define IS_CHANGED ECANCELED   /* another program changed it */
 #define IS_THERE EALREADY      /* it is there, and nobody has asked for it */
+#define IS_GONE EXFULL         /* it is gone, though it was there */
 #define NO_NAME EDOM           /* it has no name yet, or one that no file can have */
 #define NOT_WRITTEN EOWNERDEAD /* an earlier terminal has changed it, and not written it */
 #define NO_FOLDER ESRCH        /* the folder in which it is to be isn't there */

@@ -395,11 +395,14 @@ int keep_again(const struct text *text, struct copy *copy)
 
 /* ---- Files ---- */
 
-/* Whether a file may be replaced: it has what is known, or what it is to have. A file that is gone may come again. */
+/* Whether a file may be replaced: it has what is known, or what it is to have. A file that is gone may come again, unless its disk is gone,
+ * too: then what stands in its folder is hidden as soon as that disk is back. */
 static bool may_replace(struct request *request, struct content found)
 {
     request->found = found;
-    return found.kind == NOT_THERE || is_same(found, request->known) || is_same(found, content_of(request->text));
+    if (found.kind == NOT_THERE)
+        return request->disk == 0 || disk_of_folder(request->path) == request->disk;
+    return is_same(found, request->known) || is_same(found, content_of(request->text));
 }
 
 /* Gives a file another name. */

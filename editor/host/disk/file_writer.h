@@ -29,6 +29,7 @@ struct request {
     const struct text *text;
     const char *path;     /* with no symbolic link at its end */
     struct content known; /* what the file may have: another content is another program's */
+    dev_t disk;           /* of the folder in which the file was; 0 where it wasn't there, or that isn't known */
     mode_t mode;          /* of a file that isn't there yet */
     bool is_theirs;       /* that is another program's, to be kept beside the file */
     struct content found; /* out, at IS_CHANGED: what the file has */

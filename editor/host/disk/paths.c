@@ -47,6 +47,16 @@ char *folder_of(const char *path)
     return formatted("%.*s", slash == NULL ? 0 : (int)(slash - path + 1), path);
 }
 
+dev_t disk_of_folder(const char *path)
+{
+    struct stat status;
+    char *folder = folder_of(path);
+    dev_t disk = folder != NULL && stat(*folder == '\0' ? "." : folder, &status) == 0 ? status.st_dev : 0;
+
+    free(folder);
+    return disk;
+}
+
 void base_of(const char *path, char base[BASE_ROOM])
 {
     const char *slash = strrchr(path, '/'), *last = slash == NULL ? path : slash + 1;

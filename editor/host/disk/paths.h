@@ -5,6 +5,7 @@
 #include <stdbool.h>
 #include <stddef.h>
 #include <stdint.h>
+#include <sys/types.h>
 
 #include "limits.h"
 
@@ -25,6 +26,9 @@ char *formatted(const char *format, ...);
 
 /* The folder of a path, with the slash at its end, in memory of its own: "" for a name alone. */
 char *folder_of(const char *path);
+
+/* The device that the folder of a path is on; 0 where that isn't known. */
+dev_t disk_of_folder(const char *path);
 
 /* The last part of a path, cut to whole runes where it is too long. */
 void base_of(const char *path, char base[BASE_ROOM]);

@@ -77,6 +77,7 @@ int remember_content(struct document *document, const char *path, struct content
         document->known = known;
     }
     known->content = content;
+    known->disk = disk_of_folder(path);
     known->is_theirs = false;
     return 0;
 }
@@ -98,6 +99,14 @@ static struct content expected_at(const struct document *document, const struct 
     if (owner != NULL)
         return owner->aside.content;
     return known == NULL ? (struct content){.kind = NOT_THERE} : known->content;
+}
+
+/* The device of the folder in which a document expects a file; 0 where it expects none, or the device isn't known. */
+static dev_t known_disk(const struct document *document, const char *path)
+{
+    const struct known *known = find_known(document, path);
+
+    return known == NULL || known->content.kind == NOT_THERE ? 0 : known->disk;
 }
 
 /* ---- Writing ---- */
@@ -134,6 +143,14 @@ static void tell_broken(uint16_t tag, const char *path, const char *old)
              "%s is broken; what it was is in %s", path, old);
 }
 
+/* Why a file was not written, which may have changed since it was read: in words of its own where it isn't there now, or wasn't then. */
+static int in_its_own_words(int error, const struct request *request)
+{
+    if (error != IS_CHANGED)
+        return error;
+    return request->known.kind == NOT_THERE ? IS_THERE : request->found.kind == NOT_THERE ? IS_GONE : IS_CHANGED;
+}
+
 /* Puts the text of a file where its path leads to. */
 static struct attempt put_text(struct session *session, uint16_t tag, const char *path)
 {
@@ -147,6 +164,7 @@ static struct attempt put_text(struct session *session, uint16_t tag, const char
         owner = owner_at(session, end);
         request.path = end;
         request.known = expected_at(document, owner, end, &request.is_theirs);
+        request.disk = known_disk(document, end);
     }
     if (owner != NULL && owner != document)
         error = move_aside(session, owner);
@@ -159,7 +177,7 @@ static struct attempt put_text(struct session *session, uint16_t tag, const char
     tell_broken(tag, path, request.old);
     free(request.old);
     free(end);
-    return (struct attempt){error == IS_CHANGED && request.known.kind == NOT_THERE ? IS_THERE : error, request.theirs};
+    return (struct attempt){in_its_own_words(error, &request), request.theirs};
 }
 
 /* Saves a text that was not written, and answers why it was not, and where it is. */

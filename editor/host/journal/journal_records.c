@@ -83,6 +83,7 @@ static void add_document(struct body *body, uint16_t tag, const struct document 
     for (const struct known *known = document->known; known != NULL; known = known->next) {
         add_words(body, known->path);
         add_content(body, &known->content);
+        add_number(body, known->disk);
         add_number(body, known->is_theirs);
     }
 }
@@ -99,6 +100,7 @@ static void take_known(struct record *record, struct document *document)
             return;
         known->path = take_words(record);
         known->content = take_content(record);
+        known->disk = (dev_t)take_number(record);
         known->is_theirs = take_number(record) != 0;
         *last = known;
         last = &known->next;

@@ -27,6 +27,7 @@ struct known {
     struct known *next;
     char *path; /* with no symbolic link at its end */
     struct content content;
+    dev_t disk;     /* of its folder then; 0 where that isn't known */
     bool is_theirs; /* another program's, found when it refused to write: what is written in its place keeps it beside the file */
 };
 

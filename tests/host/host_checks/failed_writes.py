@@ -154,6 +154,30 @@ def check_full_disk_keeps_an_older_copy(folder):
         session.end("exit")
 
 
+def check_write_while_its_disk_is_gone(folder):
+    """A file that is gone with its disk is not made anew under the place of that at once, where nobody finds it once the disk is back. That
+    is said, and the next write makes it. A file that is only removed is made anew at once."""
+    made(folder)
+    (folder / "place").mkdir()
+    mount = "mount -t tmpfs none place && printf 'one\\n' >place/a.txt"
+    with Session(folder, "place/a.txt", prefix=with_mount(folder, mount)) as session:
+        session.type("two\n")
+        Path(f"/proc/{session.process.pid}/cwd/place/a.txt").unlink()
+        session.write()
+        expect_equal(session.told(), [], "what it says of a file that is removed")
+        session.type("three\n")
+        without_mount(session, "place")
+        session.write()
+        line = "it is gone, perhaps with its disk, and the next write makes it anew; its text is in place/a.txt.sam-saved"
+        expect_line(session.told(), f"not written: place/a.txt: {line}")
+        expect_equal(names_in(folder / "place"), ["a.txt.sam-saved"], "what is there then")
+        session.write()
+        expect_equal(session.told(), [], "what it says of the next write")
+        expect_equal(session.end(), 0, "the status")
+    expect_equal(text_of(folder / "place" / "a.txt"), "one\ntwo\nthree\n", "the file")
+    expect_equal(names_in(folder / "place"), ["a.txt"], "what is there at the end")
+
+
 def check_name_that_the_disk_lacks(folder):
     """A text whose file has its name only until the power fails is not written: it is saved, and the next write is taken. So is a copy."""
     if shutil.which("strace") is None:
