@@ -288,7 +288,7 @@ void make_journal(struct session *session, const char *name)
 
 bool has_journal(const struct home *home)
 {
-    return faccessat(home->folder, JOURNAL, F_OK, 0) == 0;
+    return faccessat(home->folder, JOURNAL, F_OK, 0) == 0 || errno != ENOENT;
 }
 
 /* Has an open journal be readable. Of one that lacks its head there is nothing to read. */

@@ -55,6 +55,9 @@ bool begin_journal_anew(struct session *session);
 
 /* Closes its files, and forgets what is held. */
 void close_journal(struct journal *journal);
+
+/* Whether the folder of a session has a journal. Where that can't be seen it counts as there: who opens it finds why, and nobody writes
+ * another in its place. */
 bool has_journal(const struct home *home);
 
 /* Opens the journal that is there, and hands out all that it has, which stays readable until close_records; and what the library says of

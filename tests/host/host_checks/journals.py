@@ -13,7 +13,7 @@ import time
 from pathlib import Path
 
 import sulgrevad
-from checks import ROOT, Skipped, expect, wait_until
+from checks import GIVEN_UP, ROOT, Skipped, expect, wait_until
 from link_model import What
 
 from .line import Staying, home_of, is_running, pid_of, with_calls
@@ -351,6 +351,24 @@ def check_journal_of_another_version(folder):
                 expect(not home_of(place, session.name).exists(), "its folder stays")
             else:
                 expect_equal(journal.read_bytes(), data, "the journal")
+
+
+def check_journal_that_can_t_be_looked_at(folder):
+    """A journal that can't be looked at is none that isn't there: that is said, it stays, and once it can be read the session goes on."""
+    if shutil.which("strace") is None:
+        raise Skipped("no strace")
+    with killed(folder) as session:
+        journal = home_of(folder, session.name) / "journal"
+        data = journal.read_bytes()
+        failing = ("strace", "-f", "-qq", "-o", "/dev/null", "-e", "inject=faccessat,faccessat2,openat:error=EIO", "-P", "journal")
+        for words in (("--end", session.name), ("--attach", session.name), ("--serve", session.name, "a.txt")):
+            ended = subprocess.run([*failing, SAMHOST, *words], cwd=folder, env=session.environment, capture_output=True, text=True,
+                                   timeout=GIVEN_UP, stdin=subprocess.DEVNULL)  # fmt: skip
+            expect_equal(journal.exists() and journal.read_bytes() == data, True, f"after {ended.stderr!r} that the journal is as it was")
+            expect("its journal can't be read" in ended.stderr, f"{words}: it says {ended.stderr!r}")
+        session.type("three\n")
+        expect_equal(session.text(), "one\ntwo\nthree\n", "the text")
+        session.leave()
 
 
 def check_form_of_records(folder):
