@@ -41,6 +41,9 @@ bool stands_in_its_file(struct session *session, uint16_t tag);
 /* Whether a copy is still there as the host saved it, so that the host may replace or remove it. */
 bool is_own(const struct copy *copy);
 
+/* Finds a copy again that a journal names: a machine that begins anew may give its disks other numbers. */
+void know_again(struct copy *copy);
+
 /* Takes the copy of a text for the user's own from now on. */
 void forget_copy(struct copy *copy);
 

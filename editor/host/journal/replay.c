@@ -212,7 +212,9 @@ static void finish_server(struct replay *replay)
     for (size_t tag = 1, tags = count_tags(session); tag < tags; tag++) {
         forget_closed(session, (uint16_t)tag);
         session->has_unmarked |= session->documents[tag].is_unmarked;
+        know_again(&session->documents[tag].aside);
     }
+    know_again(&session->cut.aside);
     if (!session->stay->is_named && !tell_hidden(session))
         replay->fault = REPLAY_SHORT;
 }

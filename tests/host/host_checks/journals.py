@@ -17,7 +17,7 @@ from checks import GIVEN_UP, ROOT, Skipped, expect, wait_until
 from link_model import What
 
 from .line import Staying, home_of, is_running, pid_of, with_calls
-from .support import SAMHOST, expect_equal, made, names_in, text_of
+from .support import IDLE, LATE, SAMHOST, expect_equal, made, names_in, text_of
 
 HEAD = 24  # bytes of a journal before its first record
 FRONT, BACK = 24, 4  # bytes of a record before its body, and behind it
@@ -369,6 +369,30 @@ def check_journal_that_can_t_be_looked_at(folder):
         session.type("three\n")
         expect_equal(session.text(), "one\ntwo\nthree\n", "the text")
         session.leave()
+
+
+def check_journal_on_a_disk_with_another_number(folder):
+    """A machine that begins anew may give the disk another number. The copy of a text is known again all the same: there is no second one."""
+    with typed(folder) as session:
+        copy = folder / "a.txt.sam-saved"
+        wait_until(copy.exists, "the text is not saved", IDLE + LATE)
+        journal = home_of(folder, session.name) / "journal"
+        named = b"a.txt.sam-saved" + struct.pack(">Q", copy.stat().st_dev)
+        wait_until(lambda: named in journal.read_bytes(), "the journal doesn't have the copy")
+        session.drop()
+        kill(folder, session)
+        data = journal.read_bytes()
+        for at, _ in records_of(data)[0]:
+            place = data[at + FRONT :].find(named)
+            if 0 <= place < struct.unpack(">I", data[at + 8 : at + 12])[0]:
+                data = with_turned(data, at, place + len(named) - 1)
+        expect(named not in data, "this test is wrong: the disk has its number still")
+        journal.write_bytes(data)
+        session.type("three\n")
+        wait_until(lambda: text_of(copy) == "one\ntwo\nthree\n", "the copy is another's", IDLE + LATE)
+        session.write()
+        session.leave()
+    expect_equal([name for name in names_in(folder) if "sam" in name], [], "the copies that are left")
 
 
 def check_form_of_records(folder):
