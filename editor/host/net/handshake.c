@@ -28,7 +28,10 @@
 #include "session/takeover.h"
 #include "sulgrevad.h"
 
-enum { LONGEST_HELLO = 10000 }; /* milliseconds that a connection may take for what it says first */
+enum {
+    LONGEST_HELLO = 10000, /* milliseconds that a connection may take for what it says first */
+    DEAF = 1000            /* milliseconds until connections are taken again for which there is no room */
+};
 
 void name_machine(char machine[MACHINE_ROOM])
 {
@@ -55,6 +58,8 @@ void accept_callers(struct stay *stay)
         if (caller->socket >= 0)
             continue;
         int socket = accept4(stay->listener, NULL, NULL, SOCK_NONBLOCK | SOCK_CLOEXEC);
+        if (socket < 0 && errno != EAGAIN && errno != EINTR && errno != ECONNABORTED)
+            stay->deaf_until = now() + DEAF; /* the connection waits still, so a look would find it at once */
         if (socket < 0)
             return;
         caller->socket = socket;

@@ -199,6 +199,8 @@ static int64_t time_to_wait(struct session *session, int64_t longest)
     int64_t wait = earlier(earlier(longest, save_is_due_in(session)), earlier(drop_callers(stay), watch_is_due_in(session)));
 
     wait = earlier(wait, time_left_alone(session));
+    if (stay->deaf_until > now())
+        wait = earlier(wait, stay->deaf_until - now());
     bool is_short = stay->is_short || stay->messages.waiting != NULL || !is_settled(session);
     return is_short && stay->is_named ? earlier(wait, PAUSE) : wait;
 }
@@ -217,7 +219,7 @@ static void carry(struct session *session, const sigset_t *mask, int64_t longest
         ends[3 + at] = (struct pollfd){stay->callers[at].socket, POLLIN, 0};
         free_ones += stay->callers[at].socket < 0;
     }
-    ends[0] = (struct pollfd){free_ones > 0 ? stay->listener : -1, POLLIN, 0};
+    ends[0] = (struct pollfd){free_ones > 0 && now() >= stay->deaf_until ? stay->listener : -1, POLLIN, 0};
     ends[1] = (struct pollfd){stay->in.sent == stay->in.len ? stay->line : -1, POLLIN, 0};
     ends[2] = (struct pollfd){stay->out.sent < stay->out.len ? stay->line_out : -1, POLLOUT, 0};
     if (ppoll(ends, 3 + MOST_CALLERS, wait < 0 ? NULL : &pause, mask) < 0)

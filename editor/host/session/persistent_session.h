@@ -31,6 +31,7 @@ struct stay {
     uint8_t id[SAM_LINK_ID_BYTES];
     bool is_named; /* a terminal has come, so the id is its session's */
     int listener;
+    int64_t deaf_until; /* no connections are taken before that: the system has no room for them */
     struct caller callers[MOST_CALLERS];
     struct waiter waiters[MOST_WAITERS];
     int line;     /* the newest connection, as bytes come over it; -1 where it is over */

@@ -566,6 +566,23 @@ def check_stays_ended_while_somebody_types(folder):
         expect_equal(texts, ["late\none\ntwo\n", None] if writes else ["one\n", "late\none\ntwo\n"], "the file and its copy")
 
 
+def check_stays_quiet_without_room_for_connections(folder):
+    """Where the system has no room for one more connection samhost sleeps, and takes it once there is room."""
+    with typed(folder) as session:
+        pid = pid_of(folder, session.name)
+        with with_calls(pid, "inject=accept4:error=EMFILE"):
+            listing = subprocess.Popen([SAMHOST, "--list"], cwd=folder, env=session.environment, stdout=subprocess.DEVNULL)
+            before = seconds_of(pid)
+            session.let_pass(4)
+            took = seconds_of(pid) - before
+            listing.wait(GIVEN_UP)
+        expect(took < 0.1, f"it takes {took:.2f} s of the processor in 4 s")
+        session.type("three\n")
+        expect(" in use, " in session.run("--list").stdout, "it takes no connection once there is room")
+        session.write()
+        session.leave()
+
+
 def check_stays_where_its_folder_comes_later(folder):
     """Where the folder in which a session began isn't there yet, as before it is mounted, the relay says so and ends without an answer, so
     that the terminal tries again; once it is there the session goes on."""
