@@ -3,6 +3,7 @@
  */
 #define _XOPEN_SOURCE 700
 #include <errno.h>
+#include <fcntl.h>
 #include <inttypes.h>
 #include <stdlib.h>
 #include <string.h>
@@ -51,15 +52,28 @@ char *state_path(void)
     return path;
 }
 
-/* Makes a folder, and those above it that are not there, for the user alone. */
+/* Makes a folder that isn't there, for the user alone, and has the disk keep its name. What fails shows at the last one. */
+static void make_folder(const char *path)
+{
+    char *above = mkdir(path, 0700) == 0 ? folder_of(path) : NULL;
+    int file = above == NULL ? -1 : open(above, O_RDONLY | O_DIRECTORY | O_CLOEXEC);
+
+    if (file >= 0) {
+        (void)fsync(file);
+        close(file);
+    }
+    free(above);
+}
+
+/* Makes a folder, and those above it that are not there. */
 static void make_folders(char *path)
 {
     for (char *slash = strchr(path + 1, '/'); slash != NULL; slash = strchr(slash + 1, '/')) {
         *slash = '\0';
-        (void)mkdir(path, 0700); /* what fails shows at the last one */
+        make_folder(path);
         *slash = '/';
     }
-    (void)mkdir(path, 0700);
+    make_folder(path);
 }
 
 /* Whether a folder is the user's own, and nobody else's to read or to write. */

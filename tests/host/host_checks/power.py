@@ -8,7 +8,7 @@ import shutil
 import subprocess
 
 import sulgrevad
-from checks import GIVEN_UP, Skipped, expect, times_slower
+from checks import GIVEN_UP, Skipped, expect, times_slower, wait_until
 
 from .journals import DONE, HELLO, UP, kill, records_of
 from .line import Staying, home_of
@@ -306,6 +306,23 @@ def check_power_cut_keeps_the_folder(folder):
         before = calls[:at] if first == "begins" else calls[at : at + calls[at:].index("sent")]
         expect({"folder", "all"} <= set(before), f"{first}: the folder is not on the disk: {calls}")
     expect("journal" in calls[: calls.index("begins")], f"the journal is not on the disk: {calls}")
+
+
+def check_power_cut_keeps_new_folders(folder):
+    """The folders that are made for the first session are on the disk before it is acknowledged, each by its name in the one above."""
+    if shutil.which("strace") is None:
+        raise Skipped("no strace")
+    made(folder, a="one\n")
+    log = folder / "calls"
+    words = ("strace", "-f", "-qq", "-y", "-s", "4096", "-o", log, "-e", "trace=mkdir,fsync,listen")
+    with Staying(folder, "a.txt", prefix=("env", f"XDG_STATE_HOME={folder}/new/state", *words), begin=False) as session:
+        wait_until(lambda: log.exists() and "listen(" in log.read_text(), "it doesn't begin")
+        session.abandon()
+    calls = re.findall(r'^\d+ +(?:(mkdir)\("([^"]*)".*|(fsync)\(\d+<([^>]*)>\)) = 0$', log.read_text().split("listen(")[0], re.MULTILINE)
+    calls = [(made or synced, path or place) for made, path, synced, place in calls]
+    new = [f"{folder}/new", f"{folder}/new/state", f"{folder}/new/state/sulgrevad"]
+    wanted = [call for path in new for call in (("mkdir", path), ("fsync", os.path.dirname(path)))]
+    expect_equal(calls[: len(wanted)], wanted, f"of {calls} the first")
 
 
 def seconds_of_children():
