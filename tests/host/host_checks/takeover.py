@@ -8,7 +8,7 @@ from checks import expect, wait_until
 from link_model import What
 
 from .journal_faults import AGAIN
-from .journals import KNOWN, SYNCED, kill, killed, kinds_of, records_of, typed
+from .journals import SYNCED, kill, killed, records_of, typed
 from .line import Staying, home_of, is_running, pid_of, state_of, with_calls
 from .support import CLOSE, EXIT, IDLE, OPEN, VERSION, expect_equal, made, message, names_in, on_file, text_of
 
@@ -200,7 +200,7 @@ def alone(folder, old):
     old.drop()
     wait_until(lambda: text_of(folder / "a.txt.sam-saved") == "one\ntwo\n", "it isn't saved aside")
     journal = home_of(folder, old.name) / "journal"
-    wait_until(lambda: KNOWN in kinds_of(journal.read_bytes()), "it isn't noted")
+    wait_until(lambda: b"a.txt.sam-saved" in journal.read_bytes(), "it isn't noted")
     wait_until(lambda: records_of(journal.read_bytes())[0][-1][1] == {SYNCED}, "it isn't on the disk")
     return pid_of(folder, old.name)
 
