@@ -104,7 +104,7 @@ static bool is_taken_away(const struct copy *copy)
     char *folder = is_gone ? folder_of(copy->path) : NULL;
 
     if (folder != NULL)
-        is_there = stat(*folder == '\0' ? "." : folder, &now) == 0;
+        is_there = stat(*folder == '\0' ? "." : folder, &now) == 0 && now.st_nlink > 0; /* 0: it is removed, and only open still */
     free(folder);
     return is_there && now.st_dev == copy->device && !is_own(copy);
 }

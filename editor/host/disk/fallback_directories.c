@@ -107,7 +107,8 @@ int own_folder(int which, bool makes, char **folder)
     return error;
 }
 
-/* The whole path of a file, in memory of its own; also of one whose folder isn't there. NULL where memory is out. */
+/* The whole path of a file, in memory of its own; also of one whose folder isn't there. Where the process's own folder is gone its path counts
+ * as if it began at the root. NULL where memory is out. */
 static char *whole_path(const char *path)
 {
     char *folder = folder_of(path), *whole = NULL, *own = NULL;
@@ -120,6 +121,8 @@ static char *whole_path(const char *path)
         rest = *path == '/' ? path + 1 : path;
         whole = *path == '/' ? formatted("") : realpath(".", NULL);
     }
+    if (whole == NULL && errno != ENOMEM)
+        whole = formatted("");
     if (whole != NULL)
         own = formatted("%s/%s", whole, rest);
     free(whole);

@@ -2,6 +2,7 @@
 import contextlib
 import os
 import resource
+import shutil
 import signal
 import subprocess
 import threading
@@ -154,6 +155,27 @@ def check_copy_whose_disk_is_gone(folder):
         expect_equal(session.end(), 0, "the status")
         expect_line(session.lines, "place/a.txt was not written; its text is in place/a.txt.sam-saved")
     expect_equal(text_of(folder / "place" / "a.txt.sam-saved"), "one\ntwo\n", "the copy")
+
+
+def check_copy_whose_folder_is_gone(folder):
+    """Where somebody removes the folder of a session that lives, its text is saved in the user's own folder, also if it had a copy there."""
+    for is_typed in (False, True):
+        place, state = folder / str(is_typed), folder / f"state{is_typed}"
+        place.mkdir()
+        made(place, a="one\n")
+        with Session(place, "a.txt", environment={"XDG_STATE_HOME": str(state), "TMPDIR": str(state)}) as session:
+            session.type("two\n")
+            wait_until((place / "a.txt.sam-saved").exists, "the text is not saved", IDLE + LATE)
+            session.let_pass(0.2)
+            shutil.rmtree(place)
+            copy = state / "sulgrevad" / f"{front_of('/a.txt')}.sam-saved"  # as if the folder were the root
+            if is_typed:
+                session.type("three\n")
+                session.write()
+                expect_line(session.told(), f"not written: a.txt: No such file or directory; its text is in {copy}")
+            expect_equal(session.end(), 0, "the status")
+            expect_line(session.lines, f"a.txt was not written; its text is in {copy}")
+        expect_equal(text_of(copy), "one\ntwo\nthree\n" if is_typed else "one\ntwo\n", "the copy")
 
 
 def check_offered(folder):
