@@ -3,6 +3,7 @@ import concurrent.futures
 import os
 import resource
 import signal
+import subprocess
 import time
 
 from checks import MNT_DETACH, Skipped, expect, libc, wait_until
@@ -12,7 +13,7 @@ from .journals import ENDED, kill, kinds_of, records_of, typed
 from .line import Staying, home_of, is_running, pid_of, state_of, with_calls
 from .memory import build_full_disk
 from .persistent_session import expect_gone
-from .support import expect_equal, made, names_in, text_of
+from .support import SAMHOST, expect_equal, made, names_in, text_of
 
 FAULTS = int(os.environ.get("FAULTS") or 24)  # how many single faults are tried of each call and error; 1000: all that there are
 AT_ONCE = 4
@@ -192,6 +193,39 @@ def check_journal_stays_where_its_end_finds_no_room(folder):
         expect_equal((ended.returncode, ended.stderr), wanted, "what comes of --end once there is room")
         expect_gone(folder, session)
     expect_equal(text_of(folder / "a.txt.sam-saved"), "one\ntwo\n", "the copy")
+
+
+def check_journal_stays_where_late_text_finds_no_room(folder):
+    """Where there is no room for what is typed once the texts are saved for the end, the journal stays, which has it, and --end saves it from
+    there; also where another samhost has waited with the terminal since."""
+    for is_ended_late in (False, True):
+        place = folder / str(is_ended_late)
+        place.mkdir()
+        made(place, a="one\n")
+        words, full = on_full_disk(place)
+        with Staying(place, "a.txt", prefix=("env", *map("=".join, words.items()))) as session:
+            session.type("two\n")
+            pid, home, end = pid_of(place, session.name), home_of(place, session.name), [SAMHOST, "--end", session.name]
+            with subprocess.Popen(end, cwd=place, env=session.environment, stderr=subprocess.DEVNULL) as ending:
+                session.carry(lambda: session.of("ENDED"), "it doesn't say that it ends")
+                if is_ended_late:
+                    ending.kill()
+                full.write_text("words that the journal never has")
+                session.terminal.select(1, 0, 0)
+                session.terminal.type(1, "late\n")
+                session.send()
+                session.carry(lambda: session.link.acknowledged == session.link.put_count, "it isn't acknowledged")
+                session.link.acknowledge()
+                session.give()
+                wait_until(lambda: not is_running(pid), "it doesn't go")
+            if is_ended_late:
+                expect((home / "journal").exists(), "the journal is gone")
+                session.drop()
+                session.start("--attach", session.name)
+                session.carry(lambda: session.process is None, "the session goes on")
+                expect_equal(session.run("--end", session.name).returncode, 0, "the status of --end")
+            expect_gone(place, session)
+        expect_equal(text_of(place / "a.txt.sam-saved"), "late\none\ntwo\n", f"{is_ended_late}: the copy")
 
 
 def check_journal_stays_at_a_signal_without_room(folder):

@@ -576,7 +576,7 @@ def check_stays_quiet_without_room_for_connections(folder):
             session.let_pass(4)
             took = seconds_of(pid) - before
             listing.wait(GIVEN_UP)
-        expect(took < 0.1, f"it takes {took:.2f} s of the processor in 4 s")
+        expect(took < 0.3, f"it takes {took:.2f} s of the processor in 4 s")
         session.type("three\n")
         expect(" in use, " in session.run("--list").stdout, "it takes no connection once there is room")
         session.write()
