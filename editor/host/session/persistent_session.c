@@ -341,15 +341,24 @@ static void put_last_message(struct session *session, int status)
         record_ended(session, status);
 }
 
-/* Does and saves what the terminal has sent behind the texts that were saved for the end, before it hears that this has come. So it does
- * where another samhost may have been killed before that. What can't be saved the journal keeps. */
+/* How many bytes of the terminal's stream had come when the texts were saved for the end. Where another samhost may have been killed before
+ * it had saved what came behind them, that isn't known. */
+static uint64_t count_saved(struct session *session)
+{
+    bool has_left = false;
+    bool is_known = !session->stay->has_ended || (sam_server_is_done(session->server, &has_left) == SAM_OK && has_left);
+
+    return is_known ? count_of(session, sam_server_received) : UINT64_MAX;
+}
+
+/* Does and saves what the terminal has sent behind the texts that were saved for the end, before it hears that this has come. What can't be
+ * saved the journal keeps. */
 static void save_late(struct session *session, uint64_t *saved)
 {
     struct stay *stay = session->stay;
     uint64_t received = count_of(session, sam_server_received);
-    bool is_over = false;
 
-    if (stay->ending == FAULT || received == *saved || (sam_server_is_done(session->server, &is_over) == SAM_OK && is_over))
+    if (stay->ending == FAULT || received == *saved)
         return;
     *saved = received;
     (void)take_turns(session);
@@ -367,7 +376,7 @@ static void say_the_end(struct session *session, const sigset_t *mask, int statu
 {
     struct stay *stay = session->stay;
     bool was_signalled = is_signalled(), was_to_end = stay->is_to_end;
-    uint64_t wanted = 0, saved = stay->has_ended ? UINT64_MAX : count_of(session, sam_server_received);
+    uint64_t wanted = 0, saved = count_saved(session);
     int tries = 0;
     bool is_awaited = has_left || (stay->has_streams && !was_signalled);
     int64_t until = now() + (is_awaited ? LONGEST_END : stay->line >= 0 ? UNASKED_END : 0);

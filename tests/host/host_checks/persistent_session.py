@@ -544,9 +544,9 @@ def check_stays_ended_with_a_closed_text_without_its_folder(folder):
 
 def check_stays_ended_while_somebody_types(folder):
     """What is typed once the texts are saved for the end, before the terminal has heard of it, is saved, too: it is acknowledged. Where it is
-    written the write is done."""
-    for at, writes in enumerate((False, True)):
-        place = folder / str(at)
+    written the write is done; and the terminal may leave."""
+    for does in ("type", "write", "exit"):
+        place = folder / does
         place.mkdir()
         made(place, a="one\n")
         with typed(place) as session:
@@ -554,8 +554,10 @@ def check_stays_ended_while_somebody_types(folder):
                 session.carry(lambda: session.of("ENDED"), "it doesn't say that it ends")
                 session.terminal.select(1, 0, 0)
                 session.terminal.type(1, "late\n")
-                if writes:
+                if does == "write":
                     session.terminal.write(1)
+                if does == "exit":
+                    session.terminal.exit()
                 session.send()
                 session.carry(lambda: session.link.acknowledged == session.link.put_count, "it isn't acknowledged")
                 session.link.acknowledge()
@@ -563,7 +565,8 @@ def check_stays_ended_while_somebody_types(folder):
                 expect_equal(ending.wait(GIVEN_UP), 0, "the status of --end")
             expect_gone(place, session)
         texts = [text_of(place / name) for name in ("a.txt", "a.txt.sam-saved")]
-        expect_equal(texts, ["late\none\ntwo\n", None] if writes else ["one\n", "late\none\ntwo\n"], "the file and its copy")
+        wanted = ["late\none\ntwo\n", None] if does == "write" else ["one\n", "late\none\ntwo\n"]
+        expect_equal(texts, wanted, f"{does}: the file and its copy")
 
 
 def check_stays_quiet_without_room_for_connections(folder):
