@@ -105,7 +105,7 @@ def check_crossing(folder):
 
 
 def check_insertion(folder):
-    """Undo of an insertion into which the host's change came takes back what was typed, and the host's change by another step."""
+    """Undo of an insertion into which the host's change came takes back what was typed before and after, and the host's change between."""
     with Place(folder, 100) as place:
         neovim = place.opened("notes.txt", "one\ntwo\n")
         neovim.command("SulgrevadRun ,x/two/c/2/")
@@ -114,11 +114,30 @@ def check_insertion(folder):
         neovim.ask("nvim_input", "y<Esc>")
         neovim.wait_settled()
         expect_equal(place.expect_same(neovim, "notes.txt"), "onexy\n2\n")
-        for wanted in ("onexy\ntwo\n", "one\ntwo\n"):
+        for wanted in ("onex\n2\n", "onex\ntwo\n", "one\ntwo\n"):
             neovim.keys("u")
             expect_equal(neovim.text, wanted)
-        neovim.keys("2<C-r>")
+        neovim.keys("3<C-r>")
         expect_equal(neovim.text, "onexy\n2\n")
+
+
+def check_insertion_of_lines(folder):
+    """Undo of lines that are typed behind the host's change takes back these alone, also where it made two."""
+    with Place(folder) as place:
+        neovim = place.opened("notes.txt", "one\ntwo\nthree\nfour\n")
+        neovim.ask("nvim_input", "2GAx")
+        for line in (",x/four/c/4/", ",x/one/c/1/"):
+            neovim.command(f"SulgrevadRun {line}")
+            neovim.wait_settled()
+        neovim.ask("nvim_input", "<CR>z<CR>w<Esc>")
+        neovim.wait_settled()
+        steps = [f"{words}\n" for words in ("1\ntwox\nz\nw\nthree\n4", "1\ntwox\nthree\n4", "one\ntwox\nthree\n4", "one\ntwox\nthree\nfour")]
+        expect_equal(place.expect_same(neovim, "notes.txt"), steps[0])
+        for wanted in [*steps[1:], "one\ntwo\nthree\nfour\n"]:
+            neovim.keys("u")
+            expect_equal(neovim.text, wanted)
+        neovim.keys("4<C-r>")
+        expect_equal(place.expect_same(neovim, "notes.txt"), steps[0])
 
 
 def check_one_step(folder):

@@ -149,11 +149,21 @@ end
 -- Whether more of the host's answer is to come: it locks the file, or has put in what is not loaded yet.
 function File:has_more() return not self:is_free() or #self.holes > 0 end
 
+-- Saves the cursor's line for undo, if Insert mode is in the buffer: that takes the line as saved where it began, in a step which is over.
+function File:save_line()
+  self.saved = nil
+  if not vim.fn.mode():find "^[iR]" or api.nvim_get_current_buf() ~= self.buf then return end
+  local row = vim.fn.line "." - 1
+  api.nvim_buf_set_text(self.buf, row, 0, row, 0, { "" })
+  self.saved = api.nvim_buf_get_changedtick(self.buf)
+end
+
 -- Has `act` change the buffer, as a step of undo of its own, or as more of one that stayed open. Cursors stay at their text. The step stays
 -- open where more of the host's answer is to come, until the user changes something.
 function File:change(act)
   local buf, marks = self.buf, {}
-  local was_modifiable, is_open = vim.bo[buf].modifiable, self.open_step == api.nvim_buf_get_changedtick(buf)
+  local was_modifiable, tick = vim.bo[buf].modifiable, api.nvim_buf_get_changedtick(buf)
+  local is_open = self.open_step == tick or self.saved == tick -- nothing was typed into the step of that line
   self.is_changing, vim.bo[buf].modifiable = true, true
   for _, window in ipairs(vim.fn.win_findbuf(buf)) do
     local row, column = unpack(api.nvim_win_get_cursor(window))
@@ -170,6 +180,7 @@ function File:change(act)
     if row then pcall(api.nvim_win_set_cursor, window, { row + 1, column }) end
     api.nvim_buf_del_extmark(buf, space, mark)
   end
+  self:save_line()
   self.is_changing, vim.bo[buf].modifiable = nil, was_modifiable
   self.open_step = self:has_more() and api.nvim_buf_get_changedtick(buf)
   if not is_right then error(why, 0) end
