@@ -96,6 +96,16 @@ def check_exact(folder):
         expect_equal(place.expect_same(neovim, "text 3"), "xone\n")
 
 
+def check_emptied(folder):
+    """Of a buffer without a line the terminal has no line either, at once."""
+    with Place(folder) as place:
+        neovim = place.opened("notes.txt", "one\n\n")
+        for keys in ("ggdG", "u", "ggVGp", "i\n<Esc>", "ggdG"):
+            neovim.keys(keys)
+            neovim.wait_settled()
+            expect_equal((keys, neovim.lua("return " + TERMINAL)), (keys, neovim.text))
+
+
 def check_no_text(folder):
     """What is typed and is no Unicode becomes U+FFFD, in the buffer, too."""
     with Place(folder) as place:

@@ -25,10 +25,16 @@ end
 
 function File:line(row) return api.nvim_buf_get_lines(self.buf, row, row + 1, true)[1] end
 
+-- Whether the buffer has no line at all, for which Neovim shows one that is empty.
+function File:is_empty()
+  if api.nvim_buf_line_count(self.buf) > 1 or self:line(0) ~= "" then return false end
+  return api.nvim_buf_call(self.buf, function() return vim.fn.wordcount().bytes == 0 end)
+end
+
 -- The text of the buffer, or of its lines from `first` up to `last`, counted from 0.
 function File:text(first, last)
+  if self:is_empty() then return "" end
   local count = api.nvim_buf_line_count(self.buf)
-  if count == 1 and api.nvim_buf_call(self.buf, function() return vim.fn.wordcount().bytes == 0 end) then return "" end
   local lines = api.nvim_buf_get_lines(self.buf, first or 0, last or -1, false)
   if last and last < count or vim.bo[self.buf].endofline then lines[#lines + 1] = "" end
   return table.concat(lines, "\n")
@@ -37,6 +43,7 @@ end
 -- The number of bytes before a row, or behind the last one of all. Neovim may not know it (-1).
 function File:offset(row)
   local count = api.nvim_buf_line_count(self.buf)
+  if self:is_empty() then return 0 end
   if row == count then return self:offset(row - 1) + #self:line(row - 1) + (vim.bo[self.buf].endofline and 1 or 0) end
   return row > 0 and api.nvim_buf_get_offset(self.buf, row) or 0
 end
