@@ -4,7 +4,7 @@ import shutil
 
 from checks import expect, expect_equal, wait_until
 
-from .support import PLUGIN, Place
+from .support import PLUGIN, TERMINAL, Place
 
 
 def check_names(folder):
@@ -101,6 +101,38 @@ def check_reload(folder):
         expect_equal(place.expect_same(neovim, "notes.txt"), "one\nother\nx\n")
         neovim.keys("uu")
         expect_equal(neovim.text, "one\ntwo\nmine\n")
+
+
+def check_undo_of_reload(folder):
+    """Undo and redo over :e! leave no empty text, and what is typed then stays and goes to the host."""
+    first, mine = "one\ntwo\n", "one\ntwo\nmine\n"
+    with Place(folder) as place:
+        neovim = place.opened("notes.txt", first)
+        neovim.keys("Gomine<Esc>")
+        neovim.wait_settled()
+        neovim.command("edit!")
+        for key in ("u", "<C-r>", "u"):
+            for wanted in (mine, mine, first):  # the step between reads the client's text, which is the same
+                neovim.keys(key)
+                neovim.wait_settled()
+                expect_equal((key, neovim.text, neovim.lua("return " + TERMINAL)), (key, wanted, wanted))
+        neovim.keys("Goend<Esc>")
+        neovim.wait_settled()
+        expect_equal(place.expect_same(neovim, "notes.txt"), "one\ntwo\nend\n")
+
+
+def check_unload(folder):
+    """An unloaded buffer has told all its changes, also very many of one moment. It is read anew, and undo goes back to these alone."""
+    with Place(folder) as place:
+        neovim = place.opened("notes.txt", "one\n" * 300)
+        neovim.command("edit beside.txt")
+        neovim.lua("vim.cmd 'buffer notes.txt'; vim.cmd 'g/one/s/$/x/'; vim.cmd 'buffer beside.txt'; vim.cmd 'bunload! notes.txt'")
+        neovim.wait_settled()
+        neovim.command("set nohidden")
+        neovim.command("buffer notes.txt")
+        expect_equal(neovim.text, "one\n" * 300)
+        neovim.keys("uu")
+        expect_equal(place.expect_same(neovim, "notes.txt"), "onex\n" * 300)
 
 
 def check_replacing(folder):

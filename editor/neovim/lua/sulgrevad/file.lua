@@ -251,10 +251,11 @@ end
 
 -- Has the buffer show the whole text of the file, and follows its changes from now on.
 function File:fill()
-  local options, is_first = vim.bo[self.buf], self.same == nil
+  local options, steps = vim.bo[self.buf], api.nvim_buf_call(self.buf, vim.fn.undotree).entries
   local levels = options.undolevels
-  if is_first then options.undolevels = -1 end -- no undo takes the first text away
-  self.refusal, self.is_apart, self.open_step = nil, false, nil
+  if #steps == 0 then options.undolevels = -1 end -- no undo takes the first text away
+  self.refusal, self.is_apart = nil, false
+  self.open_step = api.nvim_buf_get_changedtick(self.buf) -- more of the step by which :e! emptied the buffer
   self.same, self.holes = self.session:shown(self.tag)
   self:change(function() self:set_all(self.same) end)
   options.undolevels, options.modifiable, options.modified = levels, true, false
@@ -267,9 +268,14 @@ function File:fill()
       self.is_exact = pcall(self.note, self, first, last) and self.is_exact -- else `tell` finds it, or what is wrong
       self.session:wake()
     end,
-    on_detach = function()
-      if self:is_touched() and not self.session.over then self:tell() end
+    on_reload = function() -- by undo of :e!
+      self.tick, self.is_exact = nil, false
+      self.session:wake()
+    end,
+    on_detach = function() -- at :e! before the text goes; else BufUnload came before
+      if api.nvim_buf_is_loaded(self.buf) then self.session:unload(self) end
       self.is_filled = false
+      self.session:wake()
     end,
   })
   vim.schedule(function() self:welcome() end)

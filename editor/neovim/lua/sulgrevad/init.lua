@@ -126,6 +126,12 @@ function M.write(buf, name)
   session:wake() -- which says what is true
 end
 
+-- BufUnload: the text goes. When Neovim ends it does later.
+function M.unload(buf)
+  local file = M.files[buf]
+  if file and vim.v.exiting == vim.NIL then file.session:unload(file) end
+end
+
 -- BufDelete: the host closes the file.
 function M.delete(buf)
   local file = M.files[buf]

@@ -332,10 +332,14 @@ function Session:show_all()
   self:go_on()
 end
 
+-- The text of a buffer is about to go: the client is told of it.
+function Session:unload(file)
+  if file:is_touched() and not self.over then file:tell() end
+end
+
 -- Closes a file for good. The host keeps a copy of what was not written.
 function Session:close(file)
   if self.over or not file.tag or file.is_closing or self.files[file.tag] ~= file then return end
-  if file:is_touched() then file:tell() end
   file.is_closing, file.is_filled = true, false
   self:close_tag(file.tag)
   self:once(function() return not self:file_state(file.tag).is_known end, function() self.files[file.tag] = nil end)
