@@ -276,6 +276,51 @@ def check_copies(folder):
         wait_until(lambda: not [*neovim.folder.glob("*.sam-here*")], "the copy stays")
 
 
+def check_copies_of_closed(folder):
+    """What is closed or unloaded while the line is lost, and isn't at the host, is kept here until it is, also when Neovim ends."""
+    with Place(folder, 10) as place:
+        neovim = lost_and_edited(place)
+        copy = neovim.folder / "notes.txt.sam-here"
+        neovim.command("set nohidden | split | write | quit")
+        expect(not copy.exists(), "there is a copy of a text that a window shows")
+        neovim.command("write | enew")
+        expect_equal(copy.read_text(), "onex\n")
+        neovim.command("buffer notes.txt")
+        neovim.keys("Ay<Esc>")
+        neovim.command("write | bdelete")
+        expect_equal(copy.read_text(), "onexy\n")
+        place.host.dead.unlink()
+        neovim.command("SulgrevadReconnect")
+        place.host.wait_written("notes.txt", "onexy\n")
+        wait_until(lambda: not [*neovim.folder.glob("*.sam-here*")], "the copy stays")
+        place.open(neovim, "notes.txt")
+        place.host.dead.touch()
+        place.cut(neovim)
+        neovim.wait("require('sulgrevad').status(0):find('LINE LOST') ~= nil")
+        neovim.keys("Az<Esc>")
+        neovim.command("write | bdelete")
+        neovim.ask("nvim_input", ":qa<CR>")
+        wait_until(lambda: neovim.process.poll() is not None, "Neovim does not end")
+        expect_equal(copy.read_text(), "onexyz\n")
+        expect(f"the text of notes.txt is in {copy}" in (neovim.folder / "errors").read_text(), "the copy is not told")
+
+
+def check_copies_of_ended(folder):
+    """What the host may not have once a session is over is kept here at once, and what is typed then a little later."""
+    with Place(folder, 10) as place:
+        neovim = lost_and_edited(place)
+        neovim.lua("require('sulgrevad').files[vim.api.nvim_get_current_buf()].session.line:lose 'no memory'")
+        copy = neovim.folder / "notes.txt.sam-here"
+        expect_equal(copy.read_text(), "onex\n")
+        neovim.wait_told(f"the text of notes.txt is in {copy}")
+        neovim.keys("Ay<Esc>")
+        wait_until(lambda: copy.read_text() == "onexy\n", lambda: f"the copy has {copy.read_text()!r}")
+        neovim.keys("Az<Esc>")
+        neovim.ask("nvim_input", ":qa!<CR>")
+        wait_until(lambda: neovim.process.poll() is not None, "Neovim does not end")
+        expect_equal(([*neovim.folder.glob("*.sam-here*")], copy.read_text()), ([copy], "onexyz\n"))
+
+
 def check_left(folder):
     """Where Neovim ends while the line is dead, its text is kept here, and the session can be taken up with what the host has."""
     with Place(folder, 10) as place:

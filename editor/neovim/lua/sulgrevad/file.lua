@@ -254,7 +254,7 @@ function File:fill()
   local options, steps = vim.bo[self.buf], api.nvim_buf_call(self.buf, vim.fn.undotree).entries
   local levels = options.undolevels
   if #steps == 0 then options.undolevels = -1 end -- no undo takes the first text away
-  self.refusal, self.is_apart = nil, false
+  self.refusal, self.is_apart, self.kept = nil, false, nil
   self.open_step = api.nvim_buf_get_changedtick(self.buf) -- more of the step by which :e! emptied the buffer
   self.same, self.holes = self.session:shown(self.tag)
   self:change(function() self:set_all(self.same) end)

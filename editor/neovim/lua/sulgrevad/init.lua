@@ -142,14 +142,12 @@ end
 -- VimLeavePre: the sessions end. What a host may not have then is kept here.
 function M.leave()
   for _, session in pairs(M.sessions) do
-    local why = session:leave()
+    local was_over, why = session.over, session:leave()
     if why then
       local words = "sulgrevad: %s: %s; the session stays there: :Sulgrevad %s --take %s\n"
       io.stderr:write(words:format(session.label, why, session.command, session.line.name))
-      for path, copy in pairs(session:keep_copies()) do
-        io.stderr:write((copy and "the text of %s is in %s\n" or "no file can be written here for %s\n"):format(path, copy))
-      end
     end
+    for _, words in ipairs((why or was_over) and session:keep_copies() or {}) do io.stderr:write(words, "\n") end
   end
 end
 

@@ -332,9 +332,11 @@ function Session:show_all()
   self:go_on()
 end
 
--- The text of a buffer is about to go: the client is told of it.
+-- The text of a buffer is about to go: the client is told of it, and what the host may not have is kept here.
 function Session:unload(file)
+  if not file.is_filled then return end
   if file:is_touched() and not self.over then file:tell() end
+  if self.over or not self:has_all() then self:keep_copy(file) end
 end
 
 -- Closes a file for good. The host keeps a copy of what was not written.
@@ -424,45 +426,60 @@ end
 
 --## What the host may not have
 
--- Keeps here the texts that are modified. Returns by their paths those of the copies, or false where none can be written.
-function Session:keep_copies()
-  local kept = {}
-  for tag, file in pairs(self.files) do
-    if file.is_filled and vim.bo[file.buf].modified then
-      local copy = copies.keep(self.line.folder, file.path, file:text(), self.copies[tag])
-      self.copies[tag] = copy or self.copies[tag]
-      kept[file.path] = copy or false
-    end
-  end
-  return kept
+-- Keeps here the text of a file that is modified, or is being written, if it has changed since it was kept.
+function Session:keep_copy(file)
+  local tick = api.nvim_buf_get_changedtick(file.buf)
+  if file.kept == tick or not (vim.bo[file.buf].modified or file.writing) then return end
+  local copy = copies.keep(self.line.folder, file.path, file:text(), self.copies[file.tag] or nil)
+  file.kept, self.copies[file.tag] = copy and tick, copy or self.copies[file.tag] or false
 end
 
--- The clock has gone on. While the line is lost copies are kept, so that they are there if Neovim is killed. They go once the host has all.
+-- Keeps here the texts that are modified. Returns words about each copy.
+function Session:keep_copies()
+  local words = {}
+  for tag, file in pairs(self.files) do
+    if file.is_filled then self:keep_copy(file) end
+    local copy = self.copies[tag]
+    if copy then words[#words + 1] = ("the text of %s is in %s"):format(file.path, copy) end
+    if copy == false then words[#words + 1] = "no file can be written here for " .. file.path end
+  end
+  return words
+end
+
+-- The copies go, if the host has all. Returns whether it has.
+function Session:drop_copies()
+  if not self:has_all() then return false end
+  for _, copy in pairs(self.copies) do
+    if copy then uv.fs_unlink(copy) end
+  end
+  self.copies = {}
+  return true
+end
+
+-- The clock has gone on. While the line is lost, or the session is over, copies are kept, so that they are there if Neovim is killed.
 function Session:tick()
   self:go_on()
-  if self.over then return end
+  if not self.over and self:drop_copies() then return end
   local seconds = uv.hrtime() / 1e9
-  if self:has_all() then
-    for _, copy in pairs(self.copies) do uv.fs_unlink(copy) end
-    self.copies = {}
-  elseif math.min(self.line:silence(), seconds - self.kept_at) > SECONDS_UNKEPT then
-    self.kept_at = seconds
-    self:keep_copies()
-  end
+  if seconds - self.kept_at <= SECONDS_UNKEPT or not self.over and self.line:silence() <= SECONDS_UNKEPT then return end
+  self.kept_at = seconds
+  self:keep_copies()
 end
 
 --## The end
 
--- The session is over here. The buffers keep their texts.
+-- The session is over here. The buffers keep their texts, and what the host may not have of them is kept.
 function Session:end_here(why)
   local has_all = self:has_all()
   self.over = why
-  self.timer:close()
   for _, file in pairs(self.files) do
     if file.is_filled and not has_all then vim.bo[file.buf].modified = true end
+    if file.is_filled and has_all then file.kept = api.nvim_buf_get_changedtick(file.buf) end
     file.writing = nil
   end
-  if not self.is_leaving then M.say(self.label .. ": " .. why, "WarningMsg") end
+  if self.is_leaving then return end
+  M.say(self.label .. ": " .. why, "WarningMsg")
+  for _, words in ipairs(self:keep_copies()) do M.say(words, "WarningMsg") end
   vim.cmd "redrawstatus!"
 end
 
@@ -472,7 +489,7 @@ function Session:leave()
   self:go_on()
   vim.wait(1000 * SECONDS_TO_LEAVE, function() return self.over or self.line:is_late() or self:has_all() end, 10)
   self.is_leaving = true
-  if self.over or not self:has_all() then
+  if self.over or not self:drop_copies() then
     self.line:lose "the host does not answer"
     return self.over
   end
