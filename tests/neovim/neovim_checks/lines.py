@@ -337,7 +337,7 @@ def check_left(folder):
 
 
 def check_shown(folder):
-    """samhost --open --wait has Neovim show a file, at its line, and waits until :bd."""
+    """samhost --open --wait has Neovim show a file, at its line, and waits until :bd; what the window can't leave stays, and it is told."""
     with Place(folder) as place:
         neovim = place.opened("notes.txt", "one\n")
         place.host.write("other.txt", "1\n2\n3\n")
@@ -349,3 +349,10 @@ def check_shown(folder):
             expect(waiting.poll() is None, "it does not wait")
             neovim.command("bdelete")
             expect_equal(waiting.wait(GIVEN_UP), 0)
+        neovim.command("enew | set nohidden")
+        neovim.keys("ihere<Esc>")
+        waiting = place.host.opening("other.txt")
+        neovim.wait_told("another program wants buffer")
+        expect_equal(neovim.text, "here\n")
+        neovim.command("buffer! other.txt | bdelete")
+        expect_equal(waiting.wait(GIVEN_UP), 0)

@@ -320,7 +320,7 @@ function Session:show_file(tag, line)
   if not self.files[tag] then self:open_tag(tag, self.new_file(self, path)) end
   local file = self.files[tag]
   if line > 0 then self:once(function() return file.is_filled end, function() file:go_to(line - 1, 0) end) end
-  if vim.fn.mode() == "n" then return api.nvim_set_current_buf(file.buf) end
+  if vim.fn.mode() == "n" and pcall(api.nvim_set_current_buf, file.buf) then return end
   M.say(("another program wants buffer %d shown"):format(file.buf))
 end
 
