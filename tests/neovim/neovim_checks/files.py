@@ -184,6 +184,20 @@ def check_leave_all(folder):
         expect_equal(place.host.read("gone/notes.txt"), "onex\n")
 
 
+def check_leave_unwritten(folder):
+    """Where :w fails and Neovim ends at once, what the host says of it is told, and its copy is there."""
+    with Place(folder) as place:
+        neovim = place.opened("notes.txt", "one\n")
+        neovim.keys("Ax<Esc>")
+        neovim.wait_settled()
+        place.host.write("notes.txt", "other text\n")
+        neovim.ask("nvim_input", ":w|q<CR>")
+        wait_until(lambda: neovim.process.poll() is not None, "Neovim does not end")
+        told = (neovim.folder / "errors").read_text()
+        expect("not written: notes.txt: another program changed it" in told and "notes.txt.sam-saved" in told, told)
+        expect_equal((place.host.read("notes.txt"), place.host.read("notes.txt.sam-saved")), ("other text\n", "onex\n"))
+
+
 def check_refused(folder):
     """Unknown hosts, folders, files that are no text, and wrong words are told, and no buffer can be edited for them."""
     with Place(folder) as place:

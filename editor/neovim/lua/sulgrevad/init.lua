@@ -141,13 +141,14 @@ end
 
 -- VimLeavePre: the sessions end. What a host may not have then is kept here.
 function M.leave()
+  local last = require("sulgrevad.session").say_last
   for _, session in pairs(M.sessions) do
     local was_over, why = session.over, session:leave()
     if why then
-      local words = "sulgrevad: %s: %s; the session stays there: :Sulgrevad %s --take %s\n"
-      io.stderr:write(words:format(session.label, why, session.command, session.line.name))
+      local words = "sulgrevad: %s: %s; the session stays there: :Sulgrevad %s --take %s"
+      last(words:format(session.label, why, session.command, session.line.name))
     end
-    for _, words in ipairs((why or was_over) and session:keep_copies() or {}) do io.stderr:write(words, "\n") end
+    for _, words in ipairs((why or was_over) and session:keep_copies() or {}) do last(words) end
   end
 end
 

@@ -20,9 +20,17 @@ local SECONDS_TO_LEAVE = 10 -- for which the end of Neovim waits for a host that
 local NAME = "^%x%x%x%x%x%x%x%x%x%x%x%x%x%x%x%x$" -- of a session: it becomes a word of a command
 local GAP = 0xFFFFFFFF -- SAM_GAP: a rune that is not loaded
 
+local is_leaving = false -- Neovim ends
+
+-- Says words that stay when Neovim has ended: if it has a screen of its own, on the one before, whose cursor is kept behind them.
+function M.say_last(words)
+  io.stderr:write(uv.guess_handle(2) == "tty" and ("\27[?1049l%s\r\n\27[?1049h"):format(words) or words .. "\n")
+end
+
 -- Shows words for people. Neovim would end them at U+0000.
 function M.say(words, highlight)
   words = "sulgrevad: " .. words:gsub("%z", "^@")
+  if is_leaving then return highlight == "ErrorMsg" and M.say_last(words) end
   vim.schedule(function() api.nvim_echo({ { words, highlight } }, true, {}) end)
 end
 
@@ -477,7 +485,7 @@ function Session:end_here(why)
     if file.is_filled and has_all then file.kept = api.nvim_buf_get_changedtick(file.buf) end
     file.writing = nil
   end
-  if self.is_leaving then return end
+  if is_leaving then return end
   M.say(self.label .. ": " .. why, "WarningMsg")
   for _, words in ipairs(self:keep_copies()) do M.say(words, "WarningMsg") end
   vim.cmd "redrawstatus!"
@@ -485,10 +493,10 @@ end
 
 -- Ends the session once the host has all. If it does not answer, the session stays there: then returns words about it.
 function Session:leave()
+  is_leaving = true
   if self.over then return end
   self:go_on()
   vim.wait(1000 * SECONDS_TO_LEAVE, function() return self.over or self.line:is_late() or self:has_all() end, 10)
-  self.is_leaving = true
   if self.over or not self:drop_copies() then
     self.line:lose "the host does not answer"
     return self.over
