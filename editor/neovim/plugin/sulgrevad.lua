@@ -24,6 +24,7 @@ end
 
 on("BufReadCmd", "read", function(event) return event.buf, event.match end)
 on("BufWriteCmd", "write", function(event) return event.buf, event.match end)
+on("BufFilePre", "rename", function(event) return event.buf end)
 on("BufUnload", "unload", function(event) return event.buf end)
 on({ "BufDelete", "BufWipeout" }, "delete", function(event) return event.buf end)
 vim.api.nvim_create_autocmd("VimLeavePre", { group = group, callback = function()

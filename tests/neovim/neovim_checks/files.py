@@ -62,6 +62,22 @@ def check_failed_write(folder):
         expect_equal(place.host.read("gone/notes.txt"), "onex\n")
 
 
+def check_own_name(folder):
+    """:saveas and :file leave the buffer its name, and write no other file's text over the host's; :w writes its own."""
+    with Place(folder) as place:
+        neovim = place.opened("notes.txt", "one\n")
+        neovim.keys("Ax<Esc>")
+        name = neovim.lua("return vim.api.nvim_buf_get_name(0)")
+        other = name.replace("notes.txt", "other.txt")
+        for command in (f"saveas {other}", f"file {other} | write", f"saveas {folder}/here.txt", f"file {other}", "0file"):
+            neovim.lua("pcall(vim.cmd, ...)", command)
+            neovim.wait("vim.api.nvim_buf_get_name(0)", name)
+            neovim.wait_settled()
+            expect_equal((command, place.host.read("notes.txt"), neovim.lua("return vim.bo.modified")), (command, "one\n", True))
+        place.expect_same(neovim, "notes.txt")
+        expect_equal([path.name for path in place.host.folder.iterdir()], ["notes.txt"])
+
+
 def check_end_in_write(folder):
     """Where an error ends the session within a write, :w says so, the buffer stays modified, and :w NAME writes its text here."""
     with Place(folder) as place:

@@ -18,7 +18,7 @@ local space = api.nvim_create_namespace "sulgrevad"
 -- A file at a path of a session's host, which is to be shown in a buffer. That can't be edited until the text is there.
 function M.new(session, path, buf)
   vim.bo[buf].modifiable = false
-  return setmetatable({ session = session, path = path, buf = buf, holes = {} }, File)
+  return setmetatable({ session = session, path = path, buf = buf, name = api.nvim_buf_get_name(buf), holes = {} }, File)
 end
 
 --## The two texts

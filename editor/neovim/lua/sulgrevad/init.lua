@@ -113,7 +113,7 @@ function M.write(buf, name)
   local file = M.files[buf]
   if not file or not file.is_filled then fail "not written: the file is not there" end
   local session = file.session
-  if name ~= api.nvim_buf_get_name(buf) then fail "not written: a file of the host keeps its name" end
+  if name ~= file.name then fail "not written: a file of the host keeps its name" end
   if not session.over then session:write(file) end -- which may end it
   if session.over then fail("not written: %s; :w NAME writes it here", session.over) end
   if is_exiting() then
@@ -124,6 +124,16 @@ function M.write(buf, name)
   if file.writing and session.line:is_late() then say(("%s is written once the host answers"):format(file.path), "WarningMsg") end
   vim.bo[buf].modified = not file.writing -- a command that leaves it modified counts as failed
   session:wake() -- which says what is true
+end
+
+-- BufFilePre: :file, or :saveas before it writes, is about to give the buffer another name. It gets its own back.
+function M.rename(buf)
+  local file = M.files[buf]
+  vim.schedule(function()
+    if not file or M.files[buf] ~= file or api.nvim_buf_get_name(buf) == file.name then return end
+    api.nvim_buf_set_name(buf, file.name)
+    say("a file of the host keeps its name", "WarningMsg")
+  end)
 end
 
 -- BufUnload: the text goes. When Neovim ends it does later.
