@@ -104,6 +104,10 @@ def check_emptied(folder):
             neovim.keys(keys)
             neovim.wait_settled()
             expect_equal((keys, neovim.lua("return " + TERMINAL)), (keys, neovim.text))
+        neovim.keys("ione\n\n")
+        neovim.command("SulgrevadRun ,d")  # while Insert mode is in the buffer
+        neovim.wait_settled()
+        expect_equal((neovim.text, neovim.lua("vim.cmd 'write' return " + TERMINAL)), ("", ""))
 
 
 def check_no_text(folder):

@@ -131,13 +131,13 @@ def check_insertion_of_lines(folder):
             neovim.wait_settled()
         neovim.ask("nvim_input", "<CR>z<CR>w<Esc>")
         neovim.wait_settled()
-        steps = [f"{words}\n" for words in ("1\ntwox\nz\nw\nthree\n4", "1\ntwox\nthree\n4", "one\ntwox\nthree\n4", "one\ntwox\nthree\nfour")]
-        expect_equal(place.expect_same(neovim, "notes.txt"), steps[0])
-        for wanted in [*steps[1:], "one\ntwo\nthree\nfour\n"]:
+        typed = "1\ntwox\nz\nw\nthree\n4\n"
+        expect_equal(place.expect_same(neovim, "notes.txt"), typed)
+        for wanted in ("1\ntwox\nthree\n4\n", "one\ntwox\nthree\n4\n", "one\ntwox\nthree\nfour\n", "one\ntwo\nthree\nfour\n"):
             neovim.keys("u")
             expect_equal(neovim.text, wanted)
         neovim.keys("4<C-r>")
-        expect_equal(place.expect_same(neovim, "notes.txt"), steps[0])
+        expect_equal(place.expect_same(neovim, "notes.txt"), typed)
 
 
 def check_one_step(folder):

@@ -161,7 +161,7 @@ function File:save_line()
   self.saved = nil
   if not vim.fn.mode():find "^[iR]" or api.nvim_get_current_buf() ~= self.buf then return end
   local row = vim.fn.line "." - 1
-  api.nvim_buf_set_text(self.buf, row, 0, row, 0, { "" })
+  if self:is_empty() then self:set_all "" else api.nvim_buf_set_text(self.buf, row, 0, row, 0, { "" }) end
   self.saved = api.nvim_buf_get_changedtick(self.buf)
 end
 

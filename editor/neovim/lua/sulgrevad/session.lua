@@ -480,6 +480,7 @@ end
 function Session:end_here(why)
   local has_all = self:has_all()
   self.over = why
+  if not next(self.files) then self.timer:close() end
   for _, file in pairs(self.files) do
     if file.is_filled and not has_all then vim.bo[file.buf].modified = true end
     if file.is_filled and has_all then file.kept = api.nvim_buf_get_changedtick(file.buf) end
