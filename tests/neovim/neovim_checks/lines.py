@@ -336,6 +336,20 @@ def check_left(folder):
         expect_equal(second.text, "one\n")
 
 
+def check_signal(folder):
+    """Where a signal ends Neovim, as when its terminal goes, the host has its text, or while the line is lost it is kept here."""
+    with Place(folder, 10) as place:
+        neovim = place.opened("notes.txt", "one\n")
+        neovim.keys("Ax<Esc>")
+        neovim.process.send_signal(signal.SIGHUP)
+        wait_until(lambda: neovim.process.poll() is not None, "Neovim does not end")
+        place.host.wait_written("notes.txt.sam-saved", "onex\n")
+        neovim = lost_and_edited(place)
+        neovim.process.send_signal(signal.SIGTERM)
+        wait_until(lambda: neovim.process.poll() is not None, "Neovim does not end")
+        expect_equal((neovim.folder / "notes.txt.sam-here").read_text(), "onex\n")
+
+
 def check_shown(folder):
     """samhost --open --wait has Neovim show a file, at its line, and waits until :bd; what the window can't leave stays, and it is told."""
     with Place(folder) as place:

@@ -87,8 +87,11 @@ function File:agree() self.tick, self.noted, self.is_exact = api.nvim_buf_get_ch
 
 function File:is_free() return self.session:file_state(self.tag).is_free end
 
--- Whether the user may have changed the buffer since both texts were the same.
-function File:is_touched() return self.is_filled and not self.is_changing and self.tick ~= api.nvim_buf_get_changedtick(self.buf) end
+-- Whether the user may have changed the buffer since both texts were the same. A signal takes its text away before Neovim says that it ends.
+function File:is_touched()
+  if not self.is_filled or self.is_changing or not api.nvim_buf_is_loaded(self.buf) then return false end
+  return self.tick ~= api.nvim_buf_get_changedtick(self.buf)
+end
 
 -- The client rests: what was refused while the file was locked is told again once it isn't. Returns whether there is something to tell.
 function File:try_again()

@@ -436,9 +436,10 @@ end
 
 -- Keeps here the text of a file that is modified, or is being written, if it has changed since it was kept.
 function Session:keep_copy(file)
-  local tick = api.nvim_buf_get_changedtick(file.buf)
+  local tick, is_loaded = api.nvim_buf_get_changedtick(file.buf), api.nvim_buf_is_loaded(file.buf)
   if file.kept == tick or not (vim.bo[file.buf].modified or file.writing) then return end
-  local copy = copies.keep(self.line.folder, file.path, file:text(), self.copies[file.tag] or nil)
+  if not is_loaded and (file.refusal or not file.is_exact) then return end -- a signal ends Neovim, and the client has not all
+  local copy = copies.keep(self.line.folder, file.path, is_loaded and file:text() or file.same, self.copies[file.tag] or nil)
   file.kept, self.copies[file.tag] = copy and tick, copy or self.copies[file.tag] or false
 end
 
@@ -483,7 +484,7 @@ function Session:end_here(why)
   if not next(self.files) then self.timer:close() end
   for _, file in pairs(self.files) do
     if file.is_filled and not has_all then vim.bo[file.buf].modified = true end
-    if file.is_filled and has_all then file.kept = api.nvim_buf_get_changedtick(file.buf) end
+    if file.is_filled and has_all and not file.refusal then file.kept = api.nvim_buf_get_changedtick(file.buf) end
     file.writing = nil
   end
   if is_leaving then return end
