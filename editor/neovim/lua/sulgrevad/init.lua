@@ -113,6 +113,7 @@ function M.write(buf, name)
   local file = M.files[buf]
   if not file or not file.is_filled then fail "not written: the file is not there" end
   local session = file.session
+  if file.name == "" then file.name = api.nvim_buf_get_name(buf) end -- the buffer of a session that is over had it at first
   if name ~= file.name then fail "not written: a file of the host keeps its name" end
   if not session.over then session:write(file) end -- which may end it
   if session.over then fail("not written: %s; :w NAME writes it here", session.over) end
@@ -130,7 +131,7 @@ end
 function M.rename(buf)
   local file = M.files[buf]
   vim.schedule(function()
-    if not file or M.files[buf] ~= file or api.nvim_buf_get_name(buf) == file.name then return end
+    if not file or M.files[buf] ~= file or file.name == "" or api.nvim_buf_get_name(buf) == file.name then return end
     api.nvim_buf_set_name(buf, file.name)
     say("a file of the host keeps its name", "WarningMsg")
   end)
