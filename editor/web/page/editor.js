@@ -223,14 +223,15 @@ export class Editor {
     view.select(start, end);
   }
 
-  /** Makes a change that CodeMirror doesn't show yet: of undo. The caret goes behind it. */
+  /** Makes a change that CodeMirror doesn't show yet: of undo. The caret goes behind it. Returns whether it is made. */
   replace({ start, end, text }) {
     const { active: view } = this;
-    if (!this.#edit(view, start, end, text)) return;
+    if (!this.#edit(view, start, end, text)) return false;
     const came = runesOf(text);
     this.cm.operation(() => view.apply([{ start, gone: end - start, came }]));
     view.select(start + came, start + came);
     this.cm.scrollIntoView(null);
+    return true;
   }
 
   /** Makes a change in the session. Returns whether it is made; else the user is told why not. */
@@ -265,18 +266,17 @@ export class Editor {
   }
 
   undo() {
-    this.#turn("undo", (undo) => undo.back(), "nothing more to take back");
+    this.#turn("undo", (undo, make) => undo.back(make), "nothing more to take back");
   }
 
   redo() {
-    this.#turn("redo", (undo) => undo.again(), "nothing was taken back");
+    this.#turn("redo", (undo, make) => undo.again(make), "nothing was taken back");
   }
 
   #turn(name, turn, nothing) {
     this.press(name, () => {
-      const change = turn(this.#undoOf(this.active.tag));
-      if (change === null) this.say(nothing);
-      else this.replace(change);
+      const isThere = turn(this.#undoOf(this.active.tag), (change) => this.replace(change));
+      if (!isThere) this.say(nothing);
     });
   }
 

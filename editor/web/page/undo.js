@@ -38,20 +38,22 @@ export class Undo {
     if (last) last.kind = "";
   }
 
-  /** What takes the last step back, and what makes the last one again that was taken back: a stretch and its new text; null for none. */
-  back() {
-    const step = this.#past.pop();
-    if (!step) return null;
-    this.#future.push(step);
+  /** Takes the last step back. `make` is given a stretch and its new text, and returns whether it made that change: else the step stays, since
+   * the places of those before it are of the text without it. Returns whether there is such a step. */
+  back(make) {
+    const step = this.#past.at(-1);
+    if (!step) return false;
     const { start, gone, came } = step.change;
-    return { start, end: start + runesOf(came), text: gone };
+    if (make({ start, end: start + runesOf(came), text: gone })) this.#future.push(this.#past.pop());
+    return true;
   }
 
-  again() {
-    const step = this.#future.pop();
-    if (!step) return null;
-    this.#past.push({ ...step, kind: "" });
+  /** Makes the last step again that was taken back, likewise. */
+  again(make) {
+    const step = this.#future.at(-1);
+    if (!step) return false;
     const { start, gone, came } = step.change;
-    return { start, end: start + runesOf(gone), text: came };
+    if (make({ start, end: start + runesOf(gone), text: came })) this.#past.push({ ...this.#future.pop(), kind: "" });
+    return true;
   }
 }
