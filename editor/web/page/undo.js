@@ -38,8 +38,8 @@ export class Undo {
     if (last) last.kind = "";
   }
 
-  /** Takes the last step back. `make` is given a stretch and its new text, and returns whether it made that change: else the step stays, since
-   * the places of those before it are of the text without it. Returns whether there is such a step. */
+  /** Takes the last step back. `make` is given a stretch and its new text, and returns whether it made that change: else the step stays,
+   * since the places of those before it are of the text without it. Returns whether there is such a step. */
   back(make) {
     const step = this.#past.at(-1);
     if (!step) return false;

@@ -1,5 +1,5 @@
-/* undo.mjs COUNT SEED: steps of editor/web/page/undo.js, beside a plain list of the texts that they lead to: of COUNT actions at random some
- * are refused, as where a file is full; the next one finds the steps where they were. */
+/* undo.mjs COUNT SEED: steps of editor/web/page/undo.js, beside a plain list of the texts that they lead to: of COUNT actions at random
+ * some are refused, as where a file is full; the next one finds the steps where they were. */
 import { Undo } from "../../../editor/web/page/undo.js";
 
 const [count, seed] = process.argv.slice(2).map(Number);
