@@ -5,18 +5,22 @@ import { NoteCode, NoteKind } from "./sulgrevad/sulgrevad.js";
 
 const SHADE_OF_COPY = "\u2591"; // marks a gap in a copy
 const FRONT = "sulgrevad ";
-const TYPED = "typed.txt"; // the name of a copy of what was typed and still waited
+const TYPED = "typed.txt"; // the name of a copy of what was typed, and is in no file
 const OF_TEXTS = [NoteKind.SAVED, NoteKind.NOT_SAVED, NoteKind.ASIDE, NoteKind.LOST];
 
 export class Copies {
-  #kept = new Map(); // copies that were made by this page: their texts by their keys
+  #kept = new Map(); // copies that this page makes as long as they are due: their texts by their keys
+  #refused = new Set(); // keys of copies for which the browser had no room
+  #asideCount = 0; // texts that were set aside
   #unsaved = new Set(); // files whose text the host could save nowhere
   #isLast = false; // the copies of now stay
 
-  /** `place` is what the address of the session has: copies of other sessions are not seen. */
+  /** `place` is what the address of the session has: copies of other sessions are not seen. The keys of this page begin with a word of its
+   * own: what another page keeps of the same file is another text. */
   constructor(editor, place) {
     this.editor = editor;
     this.front = `${FRONT}${place} `;
+    this.own = `${this.front}${crypto.randomUUID()} `;
   }
 
   /** A message of the host. It may tell that the text of a file is saved, in the file or beside it; or that it is nowhere. */
@@ -26,53 +30,69 @@ export class Copies {
     else this.#unsaved.add(tag);
   }
 
-  /** Makes copies where the host may lack something, or could save a text nowhere; others go. */
+  /** Makes copies where the host may lack something, or could save a text nowhere; others of this page go. */
   keep() {
-    if (!this.#isLast) this.#putAll(this.editor.session !== null && this.editor.lacksChanges);
+    this.#putAll(this.#isLast || (this.editor.session !== null && this.editor.lacksChanges));
   }
 
   /** Makes copies of all changed texts, which stay: the host is gone, or could save some of them nowhere. */
   keepAll() {
     this.#isLast = true;
-    this.#putAll(true);
+    this.keep();
+  }
+
+  /** Keeps what was typed and is in no file, until the user drops it. Returns the copy. */
+  setAside(text) {
+    this.#asideCount += 1;
+    const copy = { key: `${this.own}aside ${this.#asideCount}`, name: TYPED, when: Date.now(), text };
+    this.#put(copy);
+    return copy;
+  }
+
+  /** Whether the browser had no room for a copy that is due. */
+  get isRefused() {
+    return this.#refused.size > 0;
   }
 
   /** Makes copies of all changed texts, and of what was typed and waits; else of those alone that the host could save nowhere. */
   #putAll(isOfAll) {
     const { editor } = this;
-    const texts = new Map();
+    const [when, copies] = [Date.now(), []];
     for (const [tag, view] of editor.views) {
-      const isWanted = editor.isChanged(tag) && (isOfAll || this.#unsaved.has(tag));
-      if (isWanted) texts.set(editor.nameOf(tag), view.shown.text(0, view.shown.runes).replaceAll(SHADE, SHADE_OF_COPY));
+      if (!editor.isChanged(tag) || !(isOfAll || this.#unsaved.has(tag))) continue;
+      const text = view.shown.text(0, view.shown.runes).replaceAll(SHADE, SHADE_OF_COPY);
+      copies.push({ key: `${this.own}file ${tag}`, name: editor.nameOf(tag), when, text });
     }
-    if (isOfAll && editor.waiting.typed !== "") texts.set(TYPED, editor.waiting.typed);
+    const { typed } = editor.waiting;
+    if (isOfAll && typed !== "") copies.push({ key: `${this.own}typed`, name: TYPED, when, text: typed });
     const before = this.#kept;
-    this.#kept = new Map();
-    for (const [name, text] of texts) this.#put(name, text, before.get(this.front + name));
-    for (const key of before.keys()) if (!this.#kept.has(key)) localStorage.removeItem(key);
+    this.#kept = new Map(copies.map(({ key, text }) => [key, text]));
+    for (const copy of copies) if (copy.text !== before.get(copy.key) || this.#refused.has(copy.key)) this.#put(copy);
+    for (const key of before.keys()) if (!this.#kept.has(key)) this.drop({ key });
   }
 
   /** Puts a copy in the place of the one before. */
-  #put(name, text, before) {
-    const key = this.front + name;
-    this.#kept.set(key, text);
-    if (text === before) return;
+  #put({ key, ...copy }) {
     try {
-      localStorage.setItem(key, JSON.stringify({ name, when: Date.now(), text }));
+      localStorage.setItem(key, JSON.stringify(copy));
+      this.#refused.delete(key);
     } catch {
-      this.#kept.set(key, null);
+      this.#refused.add(key);
       this.editor.say("this browser has no room for a copy of what the host may lack");
     }
   }
 
-  /** The copies that an earlier page left: of each its name, when it was made, and its text. */
+  /** The copies that other pages left, oldest first: of each its name, when it was made, and its text. They stay until the user drops
+   * them. */
   get left() {
     const keys = Array.from({ length: localStorage.length }, (_, at) => localStorage.key(at));
-    const left = keys.filter((key) => key.startsWith(this.front) && !this.#kept.has(key));
-    return left.map((key) => ({ key, ...JSON.parse(localStorage.getItem(key)) }));
+    const left = keys.filter((key) => key.startsWith(this.front) && !key.startsWith(this.own));
+    const copies = left.map((key) => ({ key, ...JSON.parse(localStorage.getItem(key)) }));
+    return copies.sort((one, other) => one.when - other.when);
   }
 
   drop({ key }) {
     localStorage.removeItem(key);
+    this.#refused.delete(key);
   }
 }

@@ -63,6 +63,8 @@ class Page {
     document.addEventListener("click", ({ target }) => this.#meetClick(target));
     document.addEventListener("keydown", (event) => this.#meetKey(event));
     addEventListener("beforeunload", (event) => this.#meetLeaving(event));
+    document.addEventListener("visibilitychange", () => document.hidden && this.copies.keep()); // it may be the last thing heard
+    addEventListener("pagehide", () => this.copies.keep());
     new ResizeObserver(() => this.#meetSize()).observe(part("text"));
     addEventListener("online", () => this.editor.session?.addressChanged());
     addEventListener("focus", () => this.#meetFocus());
@@ -97,7 +99,7 @@ class Page {
       told: (words) => this.#hear(words),
       over: (why) => this.#meetEnd(why),
     });
-    for (const copy of this.copies.left) this.#offer(copy);
+    for (const copy of this.copies.left) this.#offerLeft(copy);
     this.cm.focus();
   }
 
@@ -134,9 +136,12 @@ class Page {
     if (session?.line.state === Client.DOWN) session.addressChanged();
   }
 
+  /** Asks before the page goes where the host may lack something that it can still get, or where no copy of a text could be made. */
   #meetLeaving(event) {
-    if (this.editor.isOver || this.editor.session === null || !this.editor.lacksChanges) return;
-    this.copies.keep();
+    const { editor, copies } = this;
+    copies.keep();
+    const isLacking = !editor.isOver && editor.session !== null && editor.lacksChanges;
+    if (!isLacking && !copies.isRefused) return;
     event.preventDefault();
     event.returnValue = ""; // for browsers that go by this
   }
@@ -265,18 +270,26 @@ class Page {
     return button;
   }
 
-  /** A copy of an earlier page is there: the user may save it as a file of his own, or drop it. */
-  #offer(copy) {
-    const when = new Date(copy.when).toLocaleString();
-    const download = document.createElement("a");
-    download.href = `data:text/plain;charset=utf-8,${encodeURIComponent(copy.text)}`;
-    download.download = copy.name.split("/").at(-1);
+  /** A copy of another page is there. */
+  #offerLeft(copy) {
+    this.#offer(copy, `${copy.name}: the host may lack what this browser kept of it at ${new Date(copy.when).toLocaleString()}`);
+  }
+
+  /** What was typed is in no file: the line has its front, and a copy has all. */
+  giveBack(line, typed) {
+    this.#offer(this.copies.setAside(typed), `${line}: ${typed}`);
+  }
+
+  /** Tells of a copy, which the user may save as a file of his own, or drop. A blob has it: Chromium saves no address above 2 MB. */
+  #offer(copy, line) {
+    const href = URL.createObjectURL(new Blob([copy.text], { type: "text/plain;charset=utf-8" }));
+    const download = Object.assign(document.createElement("a"), { href, download: copy.name.split("/").at(-1) });
     download.textContent = "Save it as a file";
     const drop = this.#button("Drop it", () => {
       this.copies.drop(copy);
       drop.closest("li").remove();
     });
-    this.tell(`${copy.name}: the host may lack what this browser kept of it at ${when}`, download, drop);
+    this.tell(line, download, drop);
   }
 
   /** The session can't go on here. */
