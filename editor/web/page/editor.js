@@ -201,7 +201,7 @@ export class Editor {
 
   /** The host has left no room for what the user typed: he gets it back. */
   #meetDropped({ tag, text }) {
-    this.page.tell(`${this.nameOf(tag)} has no room for what you typed there, which is taken out again: ${text}`);
+    this.page.giveBack(`${this.nameOf(tag)} has no room for what you typed there, which is taken out again`, text);
   }
 
   // ---- What the user does
@@ -400,10 +400,12 @@ export class Editor {
     }, after);
   }
 
-  /** A file doesn't come: what was typed for it is put in nowhere, and told. */
+  /** A file doesn't come: what was typed for it is put in nowhere, and given back. */
   refuse(why) {
-    const typed = this.waiting.takeTyped();
-    this.page.tell(typed ? `${why}; what you typed for it is put in nowhere: ${typed}` : why);
+    const { typed, hadMore } = this.waiting.giveUpFile();
+    const line = hadMore ? `${why}; other keys for it are not done` : why;
+    if (typed === "") this.page.tell(line);
+    else this.page.giveBack(`${line}; what you typed for it is put in nowhere`, typed);
   }
 
   say(message) {

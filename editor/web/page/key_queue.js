@@ -67,11 +67,12 @@ export class Waiting {
     return this.#actions.map(({ text }) => text ?? "").join("");
   }
 
-  /** The same, which is not to be done any more. */
-  takeTyped() {
-    const { typed } = this;
-    this.#actions = [];
-    return typed;
+  /** A file doesn't come: nothing is done any more of what was pressed for it, up to the next action that needs no file to be shown, and
+   * so may choose another. Returns what was typed of that, and whether there was more. */
+  giveUpFile() {
+    const next = this.#actions.findIndex(({ isOfNoFile }) => isOfNoFile);
+    const given = this.#actions.splice(0, next < 0 ? this.#actions.length : next);
+    return { typed: given.map(({ text }) => text ?? "").join(""), hadMore: given.some(({ text }) => text === undefined) };
   }
 
   #act(action) {

@@ -194,10 +194,14 @@ export class Opening {
     return undefined;
   }
 
+  /** A path turns out to be a folder: what was typed behind it goes on with the path, unless it has lines, which a field can't hold. */
   #enter(path) {
-    const typed = this.editor.waiting.takeTyped();
+    const { editor, field } = this;
+    const { typed } = editor.waiting.giveUpFile();
+    const isOfPath = !typed.includes("\n");
+    if (!isOfPath) editor.page.giveBack(`${path} is a folder; what you typed for it is put in nowhere`, typed);
     this.begin();
-    this.field.value = `${path.replace(/\/+$/, "")}/${typed}`;
+    field.value = `${path.replace(/\/+$/, "")}/${isOfPath ? typed : ""}`;
     this.#narrow();
   }
 
