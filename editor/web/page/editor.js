@@ -1,5 +1,5 @@
 /* The editor: the session, what CodeMirror shows of its files, and what the user does. */
-import { Client, EditRefused, NoMemory, NotText, SamError, Status } from "./sulgrevad/sulgrevad.js";
+import { Client, EditRefused, NoMemory, NoteCode, NoteKind, NotText, RequestRefused, SamError, Status } from "./sulgrevad/sulgrevad.js";
 import { Input } from "./input.js";
 import { runesOf } from "./shown_text.js";
 import { Undo } from "./undo.js";
@@ -9,6 +9,7 @@ import { AGAIN, READ_AFTER, Waiting } from "./key_queue.js";
 const COMMAND = 0; // the tag of the command file
 const ALL_TAGS = 65_536; // of a session
 const REACH = 4096; // runes that are loaded for a key that goes by text which isn't
+const REPLACING = [NoteCode.CHANGED_SINCE, NoteCode.EXISTS_ALREADY]; // why a write failed that would have replaced another program's text
 
 // Milliseconds.
 const AT_REST = 1000; // after the last key
@@ -40,6 +41,8 @@ export class Editor {
   #saidAt = 0; // when it came
   #hidden = new Set(); // files that are none of the user's
   #undos = new Map();
+  #writes = new Map(); // of each file of which a write is not answered, whether another one is to follow
+  #warnedAt = new Map(); // when the user was told of each file that its next write replaces another program's text
   #isLoading = false; // text is asked for that a key needs
   #hasChanged = false; // the user has changed a text since the host was known to have all
   #isUpdating = false;
@@ -281,21 +284,44 @@ export class Editor {
   }
 
   save() {
+    const pressedAt = performance.now();
     this.press("saving", () => {
       const { tag } = this.active;
       this.#undoOf(tag).stop();
-      if (this.isLate) this.say(`${this.nameOf(tag)} is written when the line is back`);
-      this.#write(tag);
+      if (pressedAt - (this.#warnedAt.get(tag) ?? -Infinity) < READ_AFTER) {
+        this.#warnedAt.set(tag, Math.max(pressedAt, this.#warnedAt.get(tag))); // a key that is held down never replaces it
+        this.say(`${this.nameOf(tag)} is not written: another program's text stands there`);
+      } else {
+        if (this.isLate) this.say(`${this.nameOf(tag)} is written when the line is back`);
+        this.#write(tag);
+      }
     });
   }
 
-  /** Has a file written. What the host answers, the page tells. */
+  /** A message of the host: it may tell that the next write of a file replaces another program's text. */
+  meet({ kind, code, tag }) {
+    if (kind === NoteKind.NOT_SAVED && REPLACING.includes(code)) this.#warnedAt.set(tag, performance.now());
+  }
+
+  /** Has a file written. What the host answers, the page tells. While a write is not answered the next one waits, since it would replace
+   * what the first may be refused for. */
   async #write(tag) {
+    if (this.#writes.has(tag)) {
+      this.#writes.set(tag, true);
+      return;
+    }
+    this.#writes.set(tag, false);
+    let isWarned = false;
     try {
       await this.session.write(tag);
     } catch (error) {
+      isWarned = error instanceof RequestRefused && REPLACING.includes(error.note.code);
       if (error instanceof SamError) this.#sayWhy(error);
     }
+    const isNext = this.#writes.get(tag);
+    this.#writes.delete(tag);
+    if (isNext && !isWarned) this.#write(tag);
+    this.#wake(0);
   }
 
   /** Shows a file, which is opened before. */
@@ -338,6 +364,11 @@ export class Editor {
     this.cm.swapDoc(view.doc);
     view.measure();
     this.page.draw();
+  }
+
+  /** Has the user asked whether the session is to end, behind the keys that wait and the writes that are to follow others. */
+  end(ask) {
+    this.press("ending", ask, { isOfNoFile: true, isReady: () => ![...this.#writes.values()].includes(true) });
   }
 
   /** The user leaves: the session ends. */

@@ -116,6 +116,7 @@ class Page {
     if (kind === NoteKind.SAVED) this.editor.say(`${this.editor.nameOf(tag)} is written`);
     if (kind === NoteKind.ANEW) this.editor.hide(number);
     if (kind === NoteKind.SHOWN) this.opening.wish(note);
+    this.editor.meet(note);
     this.copies.meet(note);
     const isPlain = kind === NoteKind.REFUSED || (kind === NoteKind.SAVED && code === NoteCode.NO_CODE);
     if (text !== "" && !isPlain) this.#hear(`samhost: ${text}`);
