@@ -186,7 +186,7 @@ class Page {
       undo: () => editor.undo(),
       redo: () => editor.redo(),
       escape: () => this.#clear(),
-      leave: () => this.#leave(),
+      leave: () => editor.end(() => this.#leave()),
       begin: () => location.reload(),
       read: () => (part("over").hidden = true),
     };
