@@ -30,7 +30,7 @@ function allKeys(CodeMirror, name, found = {}) {
 }
 
 /** Whether a key's event is that of a sign. */
-function isText(event) {
+export function isText(event) {
   const isAlone = !event.ctrlKey && !event.altKey && !event.metaKey;
   return [...event.key].length === 1 && (isAlone || event.getModifierState("AltGraph"));
 }

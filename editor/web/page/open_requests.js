@@ -1,5 +1,5 @@
 /* The menu of files: those of the session, and what the host has whose path begins as it is typed. */
-import { replayIn } from "./input.js";
+import { isText, replayIn } from "./input.js";
 import { AGAIN } from "./key_queue.js";
 import { NoteCode, NoteKind, RequestRefused } from "./sulgrevad/sulgrevad.js";
 
@@ -23,8 +23,9 @@ export class Opening {
     Object.assign(this, { editor, find, box, field, list });
     field.addEventListener("input", () => this.#narrow());
     field.addEventListener("keydown", (event) => this.#meetKey(event));
+    field.addEventListener("blur", () => this.#meetBlur());
     list.addEventListener("mousedown", (event) => event.preventDefault()); // the field keeps the keyboard
-    list.addEventListener("click", ({ target }) => this.#choose([...list.children].indexOf(target), true));
+    list.addEventListener("click", ({ target }) => this.#meetClick([...list.children].indexOf(target)));
   }
 
   begin() {
@@ -68,6 +69,27 @@ export class Opening {
       this.#isReplaying = false;
     }
     if (this.#held.length === 0) clearInterval(this.#timer);
+  }
+
+  /** The keyboard goes elsewhere, and not by a key that waited: the others are not meant for there. Where the whole window loses it, the
+   * field stays the active one. */
+  #meetBlur() {
+    if (!this.#isReplaying && document.activeElement !== this.field) this.#giveUp();
+  }
+
+  #meetClick(at) {
+    if (this.#entries[at]) this.#giveUp();
+    this.#choose(at, true);
+  }
+
+  /** Drops the keys that wait. What was typed behind a path, for its file, is given back. */
+  #giveUp() {
+    clearInterval(this.#timer);
+    const keys = this.#held.splice(0);
+    const opens = keys.findIndex(({ key }) => key === "Enter");
+    const behind = opens < 0 ? [] : keys.slice(opens + 1).filter((event) => event.key === "Enter" || isText(event));
+    const typed = behind.map(({ key }) => (key === "Enter" ? "\n" : key)).join("");
+    if (typed.trim() !== "") this.editor.page.giveBack(`what you typed behind ${this.field.value} is put in nowhere`, typed);
   }
 
   #do(event) {
