@@ -341,6 +341,15 @@ export class Editor {
     return true;
   }
 
+  /** Has a file opened that is known, and its first page loaded, without showing it. */
+  async prepare(tag) {
+    if (!this.views.has(tag)) this.#view(tag);
+    const file = this.session.document(tag);
+    await file.opened;
+    await file.load(0, REACH);
+    this.showChanges();
+  }
+
   #view(tag) {
     const view = new View(this.client, tag, this.cm, this.CodeMirror.Doc("", null, 0, "\n"));
     this.views.set(tag, view);
@@ -417,6 +426,11 @@ export class Editor {
     const isKnown = this.client.requests === 0 && !this.client.state().commandLocked;
     const [first] = isKnown ? this.tags : [];
     if (first !== undefined) this.open(first);
+  }
+
+  /** Something waits until the user rests. */
+  lookAtRest() {
+    this.#wake(AT_REST);
   }
 
   /** Has the clock call `update` after so many milliseconds, if not before. */

@@ -18,6 +18,7 @@ export class Opening {
   #hasMore = false;
   #chosen = 0;
   #wishes = []; // files that the host wishes shown: the tag of each, and a line, or 0
+  #isPreparing = false; // the first of them is opened
 
   constructor(editor, find, box, field, list) {
     Object.assign(this, { editor, find, box, field, list });
@@ -227,9 +228,10 @@ export class Opening {
     this.#narrow();
   }
 
-  /** Another program on the host's machine wishes a file shown. */
+  /** Another program on the host's machine wishes a file shown. Of what is prepared for that, `keyAt` is when the last key had come, and
+   * `place` where the line begins. */
   wish({ tag, number }) {
-    this.#wishes.push({ tag, line: number });
+    this.#wishes.push({ tag, line: number, keyAt: null, place: null });
     this.editor.update();
   }
 
@@ -243,18 +245,40 @@ export class Opening {
     this.#replay();
   }
 
-  /** Shows files that the host wishes shown, where the user rests. */
+  /** Shows files that the host wishes shown, where the user rests. Keys that he presses while one is opened are for the file that he sees:
+   * they don't wait for it, and it waits until he rests again. */
   goOn() {
     const { editor } = this;
-    if (this.#wishes.length === 0 || !editor.isAtRest) return;
-    const { tag, line } = this.#wishes.shift();
-    let isKnown = false;
-    const meet = () => {
-      isKnown = true;
-      editor.update();
+    const [wish] = this.#wishes;
+    if (wish === undefined || this.#isPreparing) return;
+    if (document.activeElement === this.field || !editor.isAtRest) editor.lookAtRest();
+    else if (wish.keyAt !== editor.keyAt) this.#prepare(wish);
+    else if (!editor.views.get(wish.tag)?.hasChanges) this.#show(this.#wishes.shift());
+  }
+
+  /** Opens a file that is to be shown, and finds its line: anew where keys have come since, which may have changed it. */
+  async #prepare(wish) {
+    const { editor, find } = this;
+    const { keyAt } = editor;
+    this.#isPreparing = true;
+    try {
+      await editor.session.know(wish.tag);
+      await editor.prepare(wish.tag);
+      if (wish.line > 0) wish.place = await find.placeOfLine(wish.tag, wish.line);
+      wish.keyAt = keyAt;
+    } catch (error) {
+      this.#wishes.shift();
+      if (!editor.isOver) editor.say(`a file that the host shows can't be opened: ${error.message}`);
+    }
+    this.#isPreparing = false;
+    editor.update();
+  }
+
+  #show({ tag, line, place }) {
+    const act = () => {
+      this.editor.open(tag);
+      if (line > 0 && this.editor.active?.tag === tag) this.find.goToLine(line, place);
     };
-    editor.session.know(tag).then(meet, meet);
-    editor.press("the file that the host shows", () => (isKnown && editor.open(tag) ? undefined : AGAIN), { isOfNoFile: true });
-    if (line > 0) this.find.goToLine(tag, line);
+    this.editor.press("the file that the host shows", act, { isOfNoFile: true });
   }
 }

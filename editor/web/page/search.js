@@ -136,24 +136,25 @@ export class Find {
     this.editor.say("");
   }
 
-  /** Goes to a line of a file, counted from 1, if that file is shown: in what is loaded from its start on, else the host looks. */
-  goToLine(tag, number) {
-    const { editor } = this;
-    let asked = null; // what the host was asked
-    const act = () => {
-      const { active } = editor;
-      if (active?.tag !== tag) return undefined;
-      if (asked !== null) return this.#meetLine(asked, number);
-      if (number - 1 <= Math.min(active.shown.firstGapLine, active.doc.lastLine())) return this.#selectLine(number);
-      if (this.#isAllLoaded) return editor.say(`line ${number} is not there`);
-      if (!editor.isLate) asked = this.#askHost(String(number));
-      return AGAIN;
-    };
-    editor.press("going to a line", act, { isOfNoFile: true });
+  /** Finds where a line of an open file begins, counted from 1: in what is loaded from its start on, else by the host. Returns the place,
+   * round which text is loaded then; null where the line is not there. */
+  async placeOfLine(tag, number) {
+    const { client, session, views } = this.editor;
+    const { shown, doc, selection } = views.get(tag);
+    if (number - 1 <= Math.min(shown.firstGapLine, doc.lastLine())) return shown.placeOf({ line: number - 1, ch: 0 });
+    if (client.firstGap(tag) === null) return null;
+    const asked = { tag, from: selection.end, dot: null, isRefused: false };
+    await this.#ask(session, asked, String(number));
+    const { dot, from } = asked;
+    if (dot === null || (dot.start === from && dot.end === from)) return null;
+    await session.load(tag, Math.max(0, dot.start - PAGE), dot.start + PAGE);
+    return dot.start;
   }
 
-  #selectLine(number) {
-    this.#select(this.editor.active.shown.placeOf({ line: number - 1, ch: 0 }), "");
+  /** Goes to a line of the file that is shown, which was found at a place, or not. */
+  goToLine(number, place) {
+    if (place === null) this.editor.say(`line ${number} is not there`);
+    else this.#select(place, "");
   }
 
   /** Has the host look, by a command line, from the end of the selection on. Returns what becomes its answer: the `dot`, or that it
@@ -183,12 +184,6 @@ export class Find {
   #meetAnswer({ dot, isRefused }, value) {
     if (dot === null && !isRefused) return AGAIN;
     return dot !== null && dot.end - dot.start === runesOf(value) ? this.#selectLoaded(dot.start, value) : this.#wrap(null, value);
-  }
-
-  #meetLine({ dot, from, isRefused }, number) {
-    if (dot === null && !isRefused) return AGAIN;
-    const isFound = dot !== null && (dot.start !== from || dot.end !== from);
-    return isFound ? this.#selectLoaded(dot.start, "") : this.editor.say(`line ${number} is not there`);
   }
 
   /** Selects a text at a place, once that is loaded. */
