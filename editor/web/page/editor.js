@@ -122,13 +122,18 @@ export class Editor {
 
   /** Whether something that was done here may not be at the host yet. */
   get lacks() {
-    return this.waiting.count > 0 || !this.session.hasAll;
+    return this.waiting.count > 0 || this.#isWriteHeld || !this.session.hasAll;
   }
 
-  /** Whether that may be a change of the user's. */
+  /** Whether a write is to follow one that is not answered. */
+  get #isWriteHeld() {
+    return [...this.#writes.values()].includes(true);
+  }
+
+  /** Whether that may be a change of the user's, or a write of one. */
   get lacksChanges() {
     this.#hasChanged &&= this.lacks;
-    return this.#hasChanged || this.waiting.typed !== "";
+    return this.#hasChanged || this.#isWriteHeld || this.waiting.typed !== "";
   }
 
   /** Whether the user rests, and nothing is under way. */
@@ -377,7 +382,7 @@ export class Editor {
 
   /** Has the user asked whether the session is to end, behind the keys that wait and the writes that are to follow others. */
   end(ask) {
-    this.press("ending", ask, { isOfNoFile: true, isReady: () => ![...this.#writes.values()].includes(true) });
+    this.press("ending", ask, { isOfNoFile: true, isReady: () => !this.#isWriteHeld });
   }
 
   /** The user leaves: the session ends. */
