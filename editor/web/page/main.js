@@ -281,7 +281,8 @@ class Page {
     this.#offer(this.copies.setAside(typed), `${line}: ${typed}`);
   }
 
-  /** Tells of a copy, which the user may save as a file of his own, or drop. A blob has it: Chromium saves no address above 2 MB. */
+  /** Tells of a copy, which the user may save as a file of his own, or drop. A blob has it: no address can have half of a pair of
+   * surrogates, as what was typed may. */
   #offer(copy, line) {
     const href = URL.createObjectURL(new Blob([copy.text], { type: "text/plain;charset=utf-8" }));
     const download = Object.assign(document.createElement("a"), { href, download: copy.name.split("/").at(-1) });
