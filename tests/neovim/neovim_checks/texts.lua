@@ -45,9 +45,9 @@ end
 
 -- Lines that stay between lines that change are no part of a difference; very many differences are one.
 expect(#text.differences("a ink\nb\nc\n", "a inky\nb\n\nc\n") == 2, "two lines")
-local many = ("x\ny\n"):rep(3000)
+local many = ("x\ny\n"):rep(12000)
 expect(#text.differences(many, (many:gsub("x", "z"))) == 1, "many differences")
-expect(#text.differences(many, (many:gsub("x", "z")), true) == 3000, "all differences")
+expect(#text.differences(many, (many:gsub("x", "z")), true) == 12000, "all differences")
 
 -- Of what is no UTF-8 each byte gives way to U+FFFD.
 for bytes, wanted in pairs {
