@@ -150,12 +150,16 @@ fn act(front: &mut OrderedOverlay, turn: Turn) -> bool {
     front.act_next() == Ok(turn) && go_on(front)
 }
 
-fn grow(alloc: Global, front: &mut OrderedOverlay, msg: Hmesg) -> bool {
-    let seen = front.overlay().end().seen();
+fn grow(alloc: Global, front: &mut OrderedOverlay, tag: u16, place: u32, count: u32) -> bool {
+    let frame = HFrame {
+        seen: front.overlay().end().seen(),
+        msg: Hmesg::Hgrow(tag, place, count),
+    };
     let mut bytes = Vec::new(alloc);
-    encode_all(&[HFrame { seen, msg }], &mut bytes).is_ok()
-        && front.bring(bytes.as_slice()).is_ok()
-        && go_on(front)
+    if encode_all(&[frame], &mut bytes).is_err() {
+        return false;
+    }
+    front.bring(bytes.as_slice()).is_ok() && go_on(front)
 }
 
 fn takes_back(front: &mut OrderedOverlay, tag: u16, place: u32, count: usize) -> bool {
@@ -182,13 +186,7 @@ fn is_right(sides: &mut Sides, step: Step<'_>) -> bool {
             ask(sides, wish).is_ok() && act(&mut sides.front, Turn::Request) && carry(sides)
         }
         Step::Travel => carry(sides),
-        Step::Grow(tag, place, count) => {
-            grow(
-                sides.alloc,
-                &mut sides.front,
-                Hmesg::Hgrow(tag, place, count),
-            )
-        }
+        Step::Grow(tag, place, count) => { grow(sides.alloc, &mut sides.front, tag, place, count) }
         Step::Saved(tag, count) => saved(&sides.host, tag) == Some(count),
         _ => is_right_in_front(&mut sides.front, step),
     }
