@@ -352,13 +352,13 @@ static uint64_t count_saved(struct session *session)
 }
 
 /* Does and saves what the terminal has sent behind the texts that were saved for the end, before it hears that this has come. What can't be
- * saved the journal keeps. */
+ * saved the journal keeps. Behind its leaving there is none: what was cut last would only be saved again. */
 static void save_late(struct session *session, uint64_t *saved)
 {
     struct stay *stay = session->stay;
     uint64_t received = count_of(session, sam_server_received);
 
-    if (stay->ending == FAULT || received == *saved)
+    if (stay->ending == FAULT || stay->ending == LEFT || received == *saved)
         return;
     *saved = received;
     (void)take_turns(session);

@@ -358,8 +358,8 @@ def check_undo_that_is_broken_off(folder):
 
 
 def check_many_changes_under_a_lock(folder):
-    """A key that changes thousands of places waits while the file is locked; one that changes some acts at once."""
-    for lines, waits in ((3_000, True), (100, False)):
+    """A key that changes tens of thousands of places waits while the file is locked; one that changes thousands acts at once."""
+    for lines, waits in ((21_000, True), (3_000, False)):
         first = "abc\n" * lines
         pair, editor, key, text = opened(first)
         pair.terminal.load(1, 0, len(first))
