@@ -1,25 +1,15 @@
 /* shown.mjs COUNT SEED: places and positions of editor/web/page/shown_text.js, beside a plain list of runes: after each of COUNT changes at
  * random every place has the position, and every position the place, that the list says. */
+import { chance, expect, seed } from "./checking.mjs";
 import { Gap, SHADE, Shown, piecesOf } from "../../../editor/web/page/shown_text.js";
 
-const [count, seed] = process.argv.slice(2).map(Number);
+const [count, first] = process.argv.slice(2).map(Number);
+seed(first);
 const RUNES = ["a", "b", "\n", "é", "𝄞", "\r", SHADE];
 const MOST_IN_GAP = 9;
 const LONG = "x𝄞\n𝄞".repeat(1500); // takes several pieces, which begin anywhere in it
 const GAP = null;
 const SHADED = `${SHADE}\n`;
-
-let state = (seed * 2654435761) >>> 0 || 1;
-function chance(below) {
-  state ^= state << 13;
-  state ^= state >>> 17;
-  state ^= state << 5;
-  return (state >>> 0) % below;
-}
-
-function expect(got, wanted, told) {
-  if (JSON.stringify(got) !== JSON.stringify(wanted)) throw new Error(`${told}: ${JSON.stringify(got)}, wanted ${JSON.stringify(wanted)}`);
-}
 
 /** What CodeMirror would have for a list of runes: of a gap a shade and a line end; and the position of each place. */
 function laidOut(runes) {

@@ -1,21 +1,11 @@
 /* undo.mjs COUNT SEED: steps of editor/web/page/undo.js, beside a plain list of the texts that they lead to: of COUNT actions at random
  * some are refused, as where a file is full; the next one finds the steps where they were. */
+import { chance, expect, seed } from "./checking.mjs";
 import { Undo } from "../../../editor/web/page/undo.js";
 
-const [count, seed] = process.argv.slice(2).map(Number);
+const [count, first] = process.argv.slice(2).map(Number);
+seed(first);
 const RUNES = ["a", "b", "\n", "é", "𝄞"];
-
-let state = (seed * 2654435761) >>> 0 || 1;
-function chance(below) {
-  state ^= state << 13;
-  state ^= state >>> 17;
-  state ^= state << 5;
-  return (state >>> 0) % below;
-}
-
-function expect(got, wanted, told) {
-  if (JSON.stringify(got) !== JSON.stringify(wanted)) throw new Error(`${told}: ${JSON.stringify(got)}, wanted ${JSON.stringify(wanted)}`);
-}
 
 const undo = new Undo();
 const texts = [""]; // after each step, oldest first
