@@ -4,6 +4,7 @@ export class Answers {
   #open = new Set();
   #held = new Map(); // of answers that wait until something holds
   #wake;
+  #over; // why no more is answered
 
   /** `wake` is called for each promise: an answer is due from then on. */
   constructor(wake) {
@@ -34,9 +35,10 @@ export class Answers {
     return this.promise((answer) => this.hold(answer, holds, answer.resolve));
   }
 
-  /** Has `end`, which answers, be called once something holds. */
+  /** Has `end`, which answers, be called once something holds. Once the session is over, what doesn't hold by then never will. */
   hold(answer, holds, end) {
     if (holds()) end();
+    else if (this.#over) answer.reject(this.#over);
     else this.#held.set(answer, { holds, end });
   }
 
@@ -48,6 +50,7 @@ export class Answers {
   }
 
   rejectAll(error) {
+    this.#over = error;
     for (const answer of this.#open) answer.reject(error);
   }
 

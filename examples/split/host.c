@@ -6,6 +6,8 @@
 #include "sulgrevad.h"
 
 #include <errno.h>
+#include <fcntl.h>
+#include <libgen.h>
 #include <poll.h>
 #include <stdio.h>
 #include <stdlib.h>
@@ -22,7 +24,7 @@ static sam_server server = SAM_SERVER_INIT;
 static FILE *journal;
 static uint64_t salt, records, durable; /* of the journal: its random number, its records, and how many bytes of it are safe */
 static char path[108], new_path[120], journal_path[120], new_journal[130];
-static uint8_t text[MOST_TEXT], record[MOST_RECORD];
+static uint8_t text[MOST_TEXT + 1], record[MOST_RECORD];
 static int line = -1; /* the connection, and its number */
 static uint64_t attempt;
 
@@ -39,6 +41,17 @@ static void must(sam_status status)
     need(status == SAM_OK, sam_status_text(status));
 }
 
+/* Has the names of the folder safe on the disk. */
+static bool sync_folder(void)
+{
+    char folder[sizeof path];
+    int file = open(dirname(strcpy(folder, path)), O_RDONLY | O_DIRECTORY);
+    bool is_safe = file >= 0 && fsync(file) == 0;
+    if (file >= 0)
+        close(file);
+    return is_safe;
+}
+
 /* Writes the text as the terminal had it written, under another name first: so the file is never half written. */
 static bool save(void)
 {
@@ -49,7 +62,7 @@ static bool save(void)
     if (file == NULL)
         return false;
     bool is_whole = fwrite(text, 1, len, file) == len && fflush(file) == 0 && fsync(fileno(file)) == 0;
-    return (fclose(file) == 0) & is_whole && rename(new_path, path) == 0;
+    return (fclose(file) == 0) & is_whole && rename(new_path, path) == 0 && sync_folder();
 }
 
 static void append(const uint8_t *body, size_t len)
@@ -96,7 +109,10 @@ static void begin(const uint8_t id[SAM_LINK_ID_BYTES])
         FILE *file = fopen(path, "rb");
         need(file != NULL, path);
         len = fread(text, 1, sizeof text, file);
+        need(!ferror(file), path);
         fclose(file);
+        errno = EFBIG;
+        need(len <= MOST_TEXT, path);
     }
     sam_server_free(&server);
     must(sam_server_new(&server, id));
@@ -110,7 +126,7 @@ static void begin(const uint8_t id[SAM_LINK_ID_BYTES])
     need(fwrite(head, sizeof head, 1, journal) == 1, new_journal);
     append(id, SAM_LINK_ID_BYTES); /* the first record says whose session it is */
     settle();
-    need(rename(new_journal, journal_path) == 0, journal_path);
+    need(rename(new_journal, journal_path) == 0 && sync_folder(), journal_path);
 }
 
 /* Goes on with the session of the journal. What a crash has torn off its end is cut. */

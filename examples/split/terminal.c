@@ -192,6 +192,8 @@ static size_t press(const char *keys, size_t len)
     return size;
 }
 
+static bool is_told; /* that the host hasn't all, by the last key */
+
 /* Reads keys. Returns whether the user wants to leave. */
 static bool read_keys(void)
 {
@@ -202,6 +204,7 @@ static bool read_keys(void)
     size_t start = 0, size = 1;
     while (start < len && keys[start] != 3 && (size = press(keys + start, len - start)) > 0)
         start += size;
+    is_told = is_told && start == 0;
     bool leaves = count <= 0 || (start < len && keys[start] == 3);
     start += start < len && keys[start] == 3;
     memmove(keys, keys + start, len -= start);
@@ -232,7 +235,6 @@ static void draw(void)
 /* Whether the host has all, or the user was told that it hasn't. */
 static bool may_leave(void)
 {
-    static bool is_told;
     bool has_all = false, may = is_told;
     must(sam_client_has_all(&client, &has_all));
     snprintf(told, sizeof told, "the host hasn't all yet; ^C again leaves");

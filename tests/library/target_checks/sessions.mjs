@@ -1,6 +1,7 @@
 /* What bindings/javascript promises of a session, over sockets of this process that break: promises, events, and texts beside plain
  * ones. */
 import * as sulgrevad from "../../../bindings/javascript/sulgrevad.js";
+import { Answers } from "../../../bindings/javascript/answers.js";
 import { library } from "../../../bindings/javascript/module.js";
 import { bytes, expect, isError, rejection, same, throws } from "./expecting.mjs";
 import { Far } from "./far.mjs";
@@ -356,6 +357,9 @@ async function checkEnds() {
     throw new TypeError("no address");
   });
   same([(await unmade.over).cause.message, await rejection(unmade.close().then(() => Promise.reject(1)))], ["no address", 1]);
+  const answers = new Answers(() => {});
+  answers.rejectAll(ended);
+  same([await answers.until(() => true), (await rejection(answers.until(() => false))) === ended], [undefined, true]); // once it is over
   const early = new Session(() => {
     const socket = new Net({}).connect();
     socket.send = (hello) => setTimeout(() => socket.onmessage({ data: writeRefusal(Status.LINK_NO_SESSION, hello).buffer }));

@@ -119,8 +119,9 @@ class _Served(End):
             self._outgoing.append((self.link.put, data))
 
     def _queue_note(self, note: Note) -> None:
-        """Moves a note behind what goes out already."""
-        self._outgoing.append((self.link.put_note, write_note(note._replace(text=note.text[:MOST_WORDS]))))
+        """Moves a note behind what goes out already. What its words have of a name that is no UTF-8 is escaped."""
+        text = note.text.encode("utf-8", "backslashreplace").decode()[:MOST_WORDS]
+        self._outgoing.append((self.link.put_note, write_note(note._replace(text=text))))
 
     def _put_out(self) -> None:
         self._queue()

@@ -68,7 +68,8 @@ class Session(End):
         SessionOver and SessionLost, too."""
         self._check()
         tag = await self._join(name.encode("utf-8", "surrogateescape"))
-        document = self._documents.get(tag) or self._begin_open(tag, name)
+        known = self._documents.get(tag)
+        document = self._begin_open(tag, name) if known is None else known  # one whose text is empty counts as false
         await self._until(lambda: document._is_ready or document._refusal is not None)
         if document._refusal:
             raise document._refusal

@@ -157,9 +157,9 @@ where
     /// the client's texts can still be read.
     pub fn go_on(&mut self, limit: Duration, mut tell: impl FnMut(&mut Client, ClientEvent, &[Splice])) -> Result<(), SessionError> {
         let mut has_told = self.move_all(&mut tell)?;
-        let until = Instant::now() + limit;
+        let began = Instant::now();
         while !has_told {
-            let left = until.saturating_duration_since(Instant::now());
+            let left = limit.saturating_sub(began.elapsed());
             match self.came.recv_timeout(self.rest(left)) {
                 Ok(Came::Piece(attempt, bytes)) => self.receive(attempt, &bytes),
                 Ok(Came::End(attempt)) => self.end(attempt),
@@ -205,17 +205,8 @@ where
         if !self.is_short {
             self.check_line()?;
         }
-        self.expect();
         self.send();
         Ok(has_told)
-    }
-
-    /// Tells the line whether an answer of the host is due. It knows of acknowledgements alone, which may come before a connection dies.
-    fn expect(&mut self) {
-        let state = self.client.state();
-        let is_locked = state.command_locked || (0..=u16::MAX).take(state.tags).any(|tag| self.client.file(tag).is_locked);
-        let waits = is_locked || !self.client.has_all();
-        self.client.expect(waits, self.now());
     }
 
     /// Does what the client wants of the connection at this time.
@@ -250,7 +241,9 @@ where
         self.attempt = self.client.connected(self.now()).map_err(SessionError::Stopped)?;
         self.writer = Some(writer);
         let (attempt, sender) = (self.attempt, self.sender.clone());
-        thread::spawn(move || read(reader, attempt, &sender));
+        if thread::Builder::new().spawn(move || read(reader, attempt, &sender)).is_err() {
+            self.end(self.attempt);
+        }
         Ok(())
     }
 
