@@ -4,7 +4,6 @@
 
 mod fault;
 mod frame_plan;
-pub mod laws;
 mod layers;
 mod marks;
 mod numbers;

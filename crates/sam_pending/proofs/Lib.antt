@@ -20,5 +20,4 @@ pub mod BlockLaws
 pub mod PartLaws
 pub mod FrameLaws
 pub mod WholeLaws
-pub mod OneMachineLaws
 pub mod PassLaws

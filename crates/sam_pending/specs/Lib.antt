@@ -5,4 +5,3 @@ pub mod Layers
 pub mod Faults
 pub mod Puts
 pub mod Blocks
-pub mod OneMachine

@@ -1,5 +1,5 @@
 //! Edits that wait: a layer over a rasp. What the user does is shown at once, and comes to the rasp once the file is free. Begin with
-//! `Pending`; the module `laws` says what is true of the cells that its clauses speak of.
+//! `Pending`; `sam_waiting` says what is true of the cells that its clauses speak of.
 #![tactic(auto)]
 
 mod block;
@@ -7,7 +7,6 @@ mod blocks;
 mod due;
 mod fault;
 mod frames;
-pub mod laws;
 mod part;
 mod pending;
 mod places;

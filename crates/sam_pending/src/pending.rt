@@ -403,7 +403,7 @@ impl Pending {
     }
 
     /// Returns whether an edit is left to bring to the rasp, of the groups up to a limit, or of any group. While none is left the rasp is
-    /// the text that a request of the group at the limit comes to (`laws::requests_find_what_was_shown`).
+    /// the text that a request of the group at the limit comes to (`requests_find_what_was_shown` of `sam_waiting`).
     #[tactic(auto, using(crate::proofs::DueLaws::next_facts, crate::proofs::PutUpToLaws::left_facts))]
     pub fn has_next(&self, up_to: Option<u32>) -> bool
         ensures value { result ≡ has_next up_to (runs_of self.now) }

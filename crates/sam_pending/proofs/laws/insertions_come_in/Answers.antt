@@ -1,5 +1,0 @@
-use Rattle.sam_pending.proofs.CellLaws.{rasp_inserted, shown_inserted}
-use Rattle.sam_pending.proofs.laws.insertions_come_in.Goals as goal
-
-pub returns : goal.returns
-returns c = record { rasp = rasp_inserted; shown = shown_inserted }

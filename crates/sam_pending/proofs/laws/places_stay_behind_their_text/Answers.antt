@@ -1,5 +1,0 @@
-use Rattle.sam_pending.proofs.PlaceLaws.{removals_move_places}
-use Rattle.sam_pending.proofs.laws.places_stay_behind_their_text.Goals as goal
-
-pub returns : goal.returns
-returns c = removals_move_places

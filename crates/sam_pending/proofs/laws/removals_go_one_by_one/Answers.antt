@@ -1,5 +1,0 @@
-use Rattle.sam_pending.proofs.CellLaws.{shown_goes}
-use Rattle.sam_pending.proofs.laws.removals_go_one_by_one.Goals as goal
-
-pub returns : goal.returns
-returns c = shown_goes
