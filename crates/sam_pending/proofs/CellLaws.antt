@@ -1,10 +1,10 @@
 -- Laws of cells.
-use Rattle.std.proofs.Common.{◌≡◌, refl, sym, ap, ◌∙◌, ℕ, zero, suc, ◌+◌, ◌-◌, ◌≤◌, Bool, true, false, not, cond, List, [], ◌∷◌, ◌++◌, map, length, take, drop, reverse, Option, Some, None, is_none, inl, inr, ◌⊎◌, eq-eqb, arith, length-append, append_assoc, append-nil, drop-drop, length-drop}
-use Rattle.std.specs.List.{filter, All}
+use Rattle.std.proofs.Common.{◌≡◌, refl, sym, ap, ◌∙◌, ℕ, zero, suc, ◌+◌, ◌-◌, ◌≤◌, Bool, true, false, not, cond, List, [], ◌∷◌, ◌++◌, map, length, take, drop, reverse, Option, Some, None, is_none, arith, length-append, append_assoc, append-nil, drop-drop, length-drop}
+use Rattle.std.specs.List.{filter}
 use Rattle.std.proofs.lemmas.List.{map-append}
 use Rattle.std.proofs.lemmas.List.Elements.{filter-append}
 use mathlib.Core.List.{reverse-cons}
-use Rattle.sam_pending.specs.Cells.{Cell, PartialText, Change, put, all_put, members, in_rasp, is_shown, rasp_of, shown_of, waiting_of, arrived, resting, part_by, take_by, drop_by, put_by, shown_place, typed, dying, replaced, inserted, removed, filled, loaded, sent, is_group, dies_of, changes_of, changes_from, gone_from, IsOf}
+use Rattle.sam_pending.specs.Cells.{Cell, PartialText, Change, put, all_put, members, in_rasp, is_shown, rasp_of, shown_of, waiting_of, resting, part_by, take_by, drop_by, put_by, shown_place, typed, dying, replaced, inserted, removed, filled, loaded, gone_from}
 
 pub members-append : (is : Cell → Bool) (a b : List Cell) → members is (a ++ b) ≡ members is a ++ members is b
 members-append is a b = ap (map (λ c. c.member)) (filter-append is a b) ∙ map-append (λ c. c.member) (filter is a) (filter is b)
@@ -195,19 +195,7 @@ shown_removed cs p q l =
     other-put in_rasp is_shown p q (waiting_of (part_by in_rasp p q cs)) cs
     ∙ ap (λ z. take (shown_place p cs) (shown_of cs) ++ shown_of (waiting_of (part_by in_rasp p q cs)) ++ drop (length (shown_of z)) (shown_of cs)) (front-two in_rasp p q cs l)
 
--- ## A group is sent
-
-pub shown_sent : (g : ℕ) (cs : List Cell) → shown_of (sent g cs) ≡ shown_of cs
-shown_sent g [] = refl
-shown_sent g (c ∷ cs) = step c.died (is_group g c.died) refl (shown_sent g cs)
-  where
-    step : (d : Option ℕ) (t : Bool) → is_group g d ≡ t → shown_of (sent g cs) ≡ shown_of cs
-        → shown_of (cond t (sent g cs) (record { member = c.member; born = cond (is_group g c.born) None c.born; died = d } ∷ sent g cs))
-        ≡ map (λ x. x.member) (cond (is_none d) (c ∷ filter is_shown cs) (filter is_shown cs))
-    step None true e same = absurd cc
-    step None false e same = ap (λ z. c.member ∷ z) same
-    step (Some h) true e same = same
-    step (Some h) false e same = same
+-- ## Changes, the last of a list first
 
 all_put-push : (t : PartialText) (es : List Change) (e : Change) → all_put t (es ++ e ∷ []) ≡ put (all_put t es) e
 all_put-push t [] e = refl
@@ -217,13 +205,7 @@ all_put-push t (x ∷ es) e = all_put-push (put t x) es e
 pub put-last : (t u : PartialText) (e : Change) (es : List Change) → all_put t (reverse es) ≡ u → all_put t (reverse (e ∷ es)) ≡ put u e
 put-last t u e es h = ap (all_put t) (reverse-cons e es) ∙ (all_put-push t (reverse es) e ∙ ap (λ z. put z e) h)
 
--- a member put in, and one taken out, behind the first n
-put-one : (r x : PartialText) (m : Option ℕ) (n : ℕ) → length r ≡ n → put (r ++ x) (record { p = n; q = n; new = m ∷ [] }) ≡ r ++ m ∷ x
-put-one r x m n e =
-    let f : take n (r ++ x) ≡ r = ap (λ k. take k (r ++ x)) (sym e) ∙ take-front r x in
-    let b : drop n (r ++ x) ≡ x = ap (λ k. drop k (r ++ x)) (sym e) ∙ drop-front r x in
-    ap (λ z. z ++ m ∷ [] ++ drop n (r ++ x)) f ∙ (ap (λ z. r ++ m ∷ [] ++ z) b ∙ append_assoc r (m ∷ []) x)
-
+-- a member taken out behind the first n
 take-one : (r x : PartialText) (m : Option ℕ) (n : ℕ) → length r ≡ n → put (r ++ m ∷ [] ++ x) (record { p = n; q = n + 1; new = [] }) ≡ r ++ x
 take-one r x m n e =
     let f : take n (r ++ m ∷ [] ++ x) ≡ r = ap (take n) (append_assoc r (m ∷ []) x) ∙ (ap (λ k. take k (r ++ m ∷ x)) (sym e) ∙ take-front r (m ∷ x)) in
@@ -231,39 +213,7 @@ take-one r x m n e =
     let b : drop (n + 1) (r ++ m ∷ [] ++ x) ≡ x = ap (λ k. drop k (r ++ m ∷ [] ++ x)) (sym l) ∙ drop-front (r ++ m ∷ []) x in
     ap (λ z. z ++ [] ++ drop (n + 1) (r ++ m ∷ [] ++ x)) f ∙ (ap (λ z. r ++ [] ++ z) b ∙ ap (λ z. z ++ x) (append-nil r))
 
--- behind the members r, of which there are n
-sent_from : (g : ℕ) (cs : List Cell) (r : PartialText) (n : ℕ) → length r ≡ n → all_put (r ++ rasp_of cs) (reverse (changes_from g n cs)) ≡ r ++ rasp_of (sent g cs)
-sent_from g [] r n e = refl
-sent_from g (c ∷ cs) r n e =
-    step c.born (dies_of g c) (sent_from g cs r n e) (ap (λ z. all_put z (reverse (changes_from g (n + 1) cs))) (sym (append_assoc r (c.member ∷ []) (rasp_of cs)))
-    ∙ sent_from g cs (r ++ c.member ∷ []) (n + 1) (omega (arith, length-append r (c.member ∷ []), e)))
-  where
-    new : (h : ℕ) (d t : Bool) → all_put (r ++ rasp_of cs) (reverse (changes_from g n cs)) ≡ r ++ rasp_of (sent g cs)
-        → all_put (r ++ rasp_of cs) (reverse (cond d (changes_from g n cs) (cond t (record { p = n; q = n; new = c.member ∷ [] } ∷ changes_from g n cs) (changes_from g n cs))))
-        ≡ r ++ rasp_of (cond d (sent g cs) (record { member = c.member; born = cond t None (Some h); died = c.died } ∷ sent g cs))
-    new h true t same = same
-    new h false true same =
-        put-last (r ++ rasp_of cs) (r ++ rasp_of (sent g cs)) (record { p = n; q = n; new = c.member ∷ [] }) (changes_from g n cs) same
-        ∙ put-one r (rasp_of (sent g cs)) c.member n e
-    new h false false same = same
-
-    step : (b : Option ℕ) (d : Bool) → all_put (r ++ rasp_of cs) (reverse (changes_from g n cs)) ≡ r ++ rasp_of (sent g cs)
-        → all_put (r ++ c.member ∷ rasp_of cs) (reverse (changes_from g (n + 1) cs)) ≡ r ++ c.member ∷ [] ++ rasp_of (sent g cs)
-        → all_put (r ++ map (λ x. x.member) (cond (is_none b) (c ∷ filter in_rasp cs) (filter in_rasp cs)))
-        (reverse (cond (is_none b)
-        (cond d (record { p = n; q = n + 1; new = [] } ∷ changes_from g (n + 1) cs) (changes_from g (n + 1) cs))
-        (cond d (changes_from g n cs) (cond (is_group g b) (record { p = n; q = n; new = c.member ∷ [] } ∷ changes_from g n cs) (changes_from g n cs)))))
-        ≡ r ++ rasp_of (cond d (sent g cs) (record { member = c.member; born = cond (is_group g b) None b; died = c.died } ∷ sent g cs))
-    step None true same next =
-        put-last (r ++ c.member ∷ rasp_of cs) (r ++ c.member ∷ [] ++ rasp_of (sent g cs)) (record { p = n; q = n + 1; new = [] }) (changes_from g (n + 1) cs) next
-        ∙ take-one r (rasp_of (sent g cs)) c.member n e
-    step None false same next = next ∙ append_assoc r (c.member ∷ []) (rasp_of (sent g cs))
-    step (Some h) d same next = new h d (is_group g (Some h)) same
-
-pub rasp_sent : (g : ℕ) (cs : List Cell) → rasp_of (sent g cs) ≡ all_put (rasp_of cs) (reverse (changes_of g cs))
-rasp_sent g cs = sym (sent_from g cs [] 0 refl)
-
--- ## A group leaves the rasp
+-- ## A change of the user's leaves the rasp as it is
 
 rasp-typed : (g : ℕ) (s : List ℕ) → rasp_of (map (typed g) s) ≡ []
 rasp-typed g [] = refl
@@ -319,27 +269,6 @@ shown_goes cs p q l =
     ap (λ y. all_put y (reverse (gone_from (shown_place p cs) b))) (members-parted in_rasp is_shown p q cs ∙ append_assoc (shown_of a) (shown_of b) (shown_of z))
     ∙ (gone-steps b (shown_of a) (shown_of z) (shown_place p cs) refl
     ∙ (sym (append_assoc (shown_of a) (shown_of (waiting_of b)) (shown_of z)) ∙ sym (members-three is_shown a (waiting_of b) z)))
-
--- ## The last group
-
-pub sent_last : (g : ℕ) (cs : List Cell) → All (IsOf g) cs → sent g cs ≡ resting (shown_of cs)
-sent_last g [] a = refl
-sent_last g (c ∷ cs) a =
-    let first : IsOf g c = a 0 c (omega arith) in
-    step c.born c.died first.0 first.1 (sent_last g cs (λ k d l. a (suc k) d (omega (arith, l))))
-  where
-    came : (b : Option ℕ) → (b ≡ None) ⊎ (b ≡ Some g) → cond (is_group g b) None b ≡ None
-    came b (inl e) = rw e refl
-    came b (inr e) = rw (e, eq-eqb g g refl) refl
-
-    step : (b d : Option ℕ) → (b ≡ None) ⊎ (b ≡ Some g) → (d ≡ None) ⊎ (d ≡ Some g) → sent g cs ≡ resting (shown_of cs)
-        → cond (is_group g d) (sent g cs) (record { member = c.member; born = cond (is_group g b) None b; died = d } ∷ sent g cs)
-        ≡ resting (map (λ x. x.member) (cond (is_none d) (c ∷ filter is_shown cs) (filter is_shown cs)))
-    step b d h (inl e) same = rw e (ap (λ z. record { member = c.member; born = z; died = None } ∷ sent g cs) (came b h) ∙ ap (λ z. arrived c.member ∷ z) same)
-    step b d h (inr e) same = rw (e, eq-eqb g g refl) same
-
-pub rasp_after_last : (g : ℕ) (cs : List Cell) → All (IsOf g) cs → rasp_of (sent g cs) ≡ shown_of cs
-rasp_after_last g cs a = ap rasp_of (sent_last g cs a) ∙ rasp_resting (shown_of cs)
 
 -- ## What is loaded
 

@@ -17,7 +17,7 @@ use Rattle.sam_pending.specs.declared.run.Deed.TheVariants.{Removes, Inserts}
 use Rattle.sam_pending.proofs.CellLaws.{members-append, members-three}
 use Rattle.sam_pending.proofs.RunLaws.{take-front, drop-front}
 use Rattle.sam_pending.proofs.LayerLaws.{above-most}
-use Rattle.sam_pending.proofs.SendLaws.{above_shown}
+use Rattle.sam_pending.proofs.ShownLaws.{above_shown}
 use Rattle.sam_pending.proofs.DueLaws.{members-typed}
 use Rattle.sam_pending.proofs.TakenLaws.{behind_run, lost_run}
 use Rattle.sam_pending.proofs.FirstLaws.{flat_made, flat_taken}

@@ -18,7 +18,7 @@ use Rattle.sam_pending.specs.declared.run.Deed.TheVariants.{Removes, Inserts}
 use Rattle.sam_pending.proofs.CellLaws.{members-append, members-three}
 use Rattle.sam_pending.proofs.FirstLaws.{flat_made}
 use Rattle.sam_pending.proofs.RunLaws.{runes-size, take-front, drop-front}
-use Rattle.sam_pending.proofs.SendLaws.{inserted-block, replaced-block, rasp-held, rasp-typed}
+use Rattle.sam_pending.proofs.ShownLaws.{inserted-block, replaced-block, rasp-held, rasp-typed}
 
 some-is : {A : Type 0} {x y : A} → Some x ≡ Some y → x ≡ y
 some-is e = cc

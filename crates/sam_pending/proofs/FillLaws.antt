@@ -9,7 +9,7 @@ use Rattle.sam_pending.specs.declared.run.Side.{Side}
 use Rattle.sam_pending.specs.declared.run.Side.TheVariants.{Below}
 use Rattle.sam_pending.proofs.CellLaws.{members-append, take-drop-by, put-last}
 use Rattle.sam_pending.proofs.RunLaws.{split, runes-size, within-front, within-back, rooms-front, cells_of-front, cells-before, drop-front, drop-more}
-use Rattle.sam_pending.proofs.SendLaws.{replaced-block, shown-held, shown-typed, placed}
+use Rattle.sam_pending.proofs.ShownLaws.{replaced-block, shown-held, shown-typed, placed}
 
 loaded-held : (m : PartialText) (s : List ℕ) (d : Option ℕ) (c : List Cell) → length m ≤ length s
     → loaded s (map (held d) m ++ c) ≡ map (held d) (map Some (take (length m) s)) ++ loaded (drop (length m) s) c

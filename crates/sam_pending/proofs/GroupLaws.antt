@@ -1,9 +1,9 @@
 -- What a request of a group comes to.
-use Rattle.std.proofs.Common.{◌≡◌, refl, sym, ap, ◌∙◌, ℕ, suc, ◌-◌, ◌<◌, Bool, true, false, cond, nat_eq, nat_le, List, [], ◌∷◌, ◌++◌, map, length, take, drop, Option, Some, None, is_none, arith, append-nil}
+use Rattle.std.proofs.Common.{◌≡◌, refl, sym, ap, ◌∙◌, ℕ, suc, ◌-◌, ◌<◌, Bool, true, false, cond, nat_le, List, [], ◌∷◌, ◌++◌, map, length, take, drop, Option, Some, None, arith, append-nil}
 use Rattle.std.proofs.lemmas.Bool.{le-leb}
 use Rattle.std.proofs.lemmas.Bool.Decides.{leb_tells, nat_tests}
 use Rattle.std.specs.List.{filter, All}
-use Rattle.sam_pending.specs.Cells.{Cell, PartialText, in_rasp, is_shown, is_group, rasp_of, shown_of, resting, take_by, drop_by, part_by, typed, dying, replaced, inserted, sent, by, stands_at, text_at, place_at, IsFrom, IsUpTo, IsOldest, IsNewest}
+use Rattle.sam_pending.specs.Cells.{Cell, PartialText, in_rasp, is_shown, is_group, shown_of, resting, take_by, drop_by, part_by, typed, dying, replaced, inserted, stands_at, text_at, place_at, IsUpTo, IsNewest}
 use Rattle.sam_pending.proofs.CellLaws.{members-append, members-three, members-parted, other-put}
 
 above-no : (g h : ℕ) → g < h → nat_le h g ≡ false
@@ -54,40 +54,6 @@ text_replaced cs g h p q s l =
     ∙ (ap (λ z. text_at g a ++ z ++ text_at g c)
     (members-append (stands_at g) (map (typed h) s) (dying h b) ∙ (ap (λ z. z ++ text_at g (dying h b)) (text-typed g h s l) ∙ text-dying g h b l))
     ∙ sym (members-parted is_shown (stands_at g) p q cs))
-
--- once the groups before it are sent, it is what the rasp becomes
-pub text_sent : (g : ℕ) (cs : List Cell) → All (IsOldest g) cs → rasp_of (sent g cs) ≡ text_at g cs
-text_sent g [] a = refl
-text_sent g (c ∷ cs) a =
-    let first : IsOldest g c = a 0 c (omega arith) in
-    step c.born c.died first.0 first.1 (text_sent g cs (λ k d l. a (suc k) d (omega (arith, l))))
-  where
-    born : (b d : Option ℕ) → IsFrom g b → rasp_of (sent g cs) ≡ text_at g cs
-        → rasp_of (record { member = c.member; born = cond (is_group g b) None b; died = d } ∷ sent g cs)
-        ≡ map (λ x. x.member) (cond (cond (is_none b) true (by g b)) (record { member = c.member; born = b; died = d } ∷ filter (stands_at g) cs) (filter (stands_at g) cs))
-    born None d h same = ap (λ z. c.member ∷ z) same
-    born (Some b) d h same = pick (nat_eq g b) (nat_le b g) (grind (arith, h, nat_tests)) same
-      where
-        pick : (t u : Bool) → t ≡ u → rasp_of (sent g cs) ≡ text_at g cs
-            → rasp_of (record { member = c.member; born = cond t None (Some b); died = d } ∷ sent g cs)
-            ≡ map (λ x. x.member) (cond u (record { member = c.member; born = Some b; died = d } ∷ filter (stands_at g) cs) (filter (stands_at g) cs))
-        pick true true e same = ap (λ z. c.member ∷ z) same
-        pick false false e same = same
-        pick true false e same = absurd cc
-        pick false true e same = absurd cc
-
-    step : (b d : Option ℕ) → IsFrom g b → IsFrom g d → rasp_of (sent g cs) ≡ text_at g cs
-        → rasp_of (sent g (record { member = c.member; born = b; died = d } ∷ cs)) ≡ text_at g (record { member = c.member; born = b; died = d } ∷ cs)
-    step b None h i same = born b None h same
-    step b (Some d) h i same = pick (nat_eq g d) (nat_le d g) (grind (arith, i, nat_tests)) same
-      where
-        pick : (t u : Bool) → t ≡ u → rasp_of (sent g cs) ≡ text_at g cs
-            → rasp_of (cond t (sent g cs) (record { member = c.member; born = cond (is_group g b) None b; died = Some d } ∷ sent g cs))
-            ≡ map (λ x. x.member) (cond (cond u false (cond (is_none b) true (by g b))) (record { member = c.member; born = b; died = Some d } ∷ filter (stands_at g) cs) (filter (stands_at g) cs))
-        pick true true e same = same
-        pick false false e same = born b (Some d) h same
-        pick true false e same = absurd cc
-        pick false true e same = absurd cc
 
 -- while it is the newest, it is what is shown
 pub text_shown : (g : ℕ) (cs : List Cell) → All (IsNewest g) cs → text_at g cs ≡ shown_of cs

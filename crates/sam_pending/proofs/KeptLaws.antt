@@ -67,3 +67,6 @@ pub kept-within : (n m : ℕ) (xs : List Run) → n + waits xs ≤ m → Within 
 kept-within n m [] l = tt
 kept-within n m (Held k d ∷ xs) l = (omega arith, kept-within (n + 0) m xs (omega (arith, l)))
 kept-within n m (Typed s g d ∷ xs) l = (omega (arith, l), kept-within (n + s.count) m xs (omega (arith, l)))
+
+pub kept_fits : (n : ℕ) (xs : List Run) → rooms (kept_runs n xs) + waits (kept_runs n xs) ≤ rooms xs + waits xs
+kept_fits n xs = omega (arith, kept-rooms n xs, kept-waits n xs)

@@ -1,13 +1,12 @@
 -- Layers: runs over a text, and the rasp below.
-use Rattle.std.proofs.Common.{Option, ◌≡◌, refl, sym, ap, ◌∙◌, subst, ℕ, ◌+◌, ◌-◌, ◌≤◌, ◌<◌, Bool, true, false, cond, nat_eq, List, [], ◌∷◌, ◌++◌, map, length, take, drop, reverse, replicate, Some, None, arith, length-append, length-drop, length-take-le, take-append-drop, ◌&&◌, not, max}
+use Rattle.std.proofs.Common.{Option, ◌≡◌, refl, sym, ap, ◌∙◌, subst, ℕ, ◌+◌, ◌-◌, ◌≤◌, ◌<◌, Bool, true, false, cond, nat_eq, List, [], ◌∷◌, ◌++◌, map, length, take, drop, replicate, Some, None, arith, length-append, length-drop, length-take-le, take-append-drop, ◌&&◌, not, max}
 use Rattle.std.proofs.lemmas.List.{drop-append-le, take-append-le, length-map, length-replicate}
 use Rattle.std.proofs.lemmas.Bool.Decides.{nat_tests}
 use Rattle.std.proofs.lemmas.List.Elements.{All-append, All-map, All-nil, filter-append}
 use Rattle.std.specs.List.{All}
 use Rattle.sam_runes.specs.Texts.{max_runes}
-use Rattle.sam_runes.specs.declared.edit.Edit.{Edit}
-use Rattle.sam_pending.specs.Cells.{PartialText, is_group, all_put, rasp_of, shown_of, shown_place, resting, replaced, inserted, removed, sent, IsNewest, IsUpTo, waiting_of, in_rasp, Cell}
-use Rattle.sam_pending.specs.Runs.{spot, held, typed_by, runes_of, room, rooms, wait, waits, above, cells, cells_of, reach, Within, size, front, back, dying_runs, waiting_runs, sent_run, sent_runs, run_rests, rests, IsSame, kept_text, kept_runs, left_rooms, put_runs, taken_runs, edit_changes, removal_changes, group_or, newest_run, newest_of}
+use Rattle.sam_pending.specs.Cells.{PartialText, shown_of, shown_place, resting, replaced, inserted, removed, IsNewest, IsUpTo, waiting_of, in_rasp, Cell}
+use Rattle.sam_pending.specs.Runs.{spot, held, typed_by, runes_of, room, rooms, waits, above, cells, cells_of, reach, Within, size, front, back, dying_runs, waiting_runs, run_rests, rests, IsSame, kept_text, kept_runs, group_or, newest_run, newest_of}
 use Rattle.sam_pending.specs.Blocks.{flat}
 use Rattle.sam_pending.specs.Layers.{Layer, IsLayer, IsTidied, most_kept, part_members}
 use Rattle.sam_pending.specs.declared.run.Stretch.{Stretch}
@@ -17,7 +16,7 @@ use Rattle.sam_pending.specs.declared.run.Side.TheVariants.{Above, Below}
 use Rattle.sam_pending.proofs.RunLaws.{waiting-held, waiting-typed, runes-size, replaced_runs, inserted_runs, removed_runs, rooms-append, rooms-front, rooms-waiting, within-front, within-back, within-append, within-more, dies, drop-front, take-whole}
 use Rattle.sam_pending.proofs.JoinLaws.{waits-append, waits-split, rooms-split}
 use Rattle.sam_pending.proofs.KeptLaws.{kept-runs, kept-rooms, kept-waits, kept-above, kept-within, kept-length}
-use Rattle.sam_pending.proofs.SendLaws.{above_shown, sent-runs, kept_all, placed, removed_told}
+use Rattle.sam_pending.proofs.ShownLaws.{above_shown, placed, removed_told}
 use Rattle.sam_pending.proofs.FillLaws.{fills, filled_shown}
 use Rattle.sam_pending.proofs.SpotLaws.{Stands, StandsAt, spot_stands}
 
@@ -231,75 +230,6 @@ removes text bs ds p q h o l same =
       rasp = rasp;
     }
 
--- ## A group comes to the rasp
-
-pub waits-sent : (g : ℕ) (xs : List Run) → waits (sent_runs g xs) ≤ waits xs
-waits-sent g [] = omega arith
-waits-sent g (x ∷ xs) = omega (arith, waits-append (sent_run g x) (sent_runs g xs), one x, waits-sent g xs)
-  where
-    one : (y : Run) → waits (sent_run g y) ≤ wait y
-    one (Held n d) = step (is_group g d)
-      where
-        step : (t : Bool) → waits (cond t [] (Held n d ∷ [])) ≤ 0
-        step true = omega arith
-        step false = omega arith
-    one (Typed s b d) = step (is_group g d) (nat_eq g b)
-      where
-        step : (t u : Bool) → waits (cond t [] (cond u (Held s.count d ∷ []) (Typed s b d ∷ []))) ≤ s.count
-        step true u = omega arith
-        step false true = omega arith
-        step false false = omega arith
-
-within-sent : (g n : ℕ) (xs : List Run) → Within n xs → Within n (sent_runs g xs)
-within-sent g n [] w = tt
-within-sent g n (x ∷ xs) w = within-append n (sent_run g x) (sent_runs g xs) (one x w.0) (within-sent g n xs w.1)
-  where
-    one : (y : Run) → reach y ≤ n → Within n (sent_run g y)
-    one (Held k d) l = step (is_group g d)
-      where
-        step : (t : Bool) → Within n (cond t [] (Held k d ∷ []))
-        step true = tt
-        step false = (omega arith, tt)
-    one (Typed s b d) l = step (is_group g d) (nat_eq g b)
-      where
-        step : (t u : Bool) → Within n (cond t [] (cond u (Held s.count d ∷ []) (Typed s b d ∷ [])))
-        step true u = tt
-        step false true = (omega arith, tt)
-        step false false = (l, tt)
-
-pub record Sends (text : List ℕ) (bs ds : List (List Run)) (es : List Edit) (g : ℕ) : Type 0 where
-  pub layer : IsLayer (record { text = text; blocks = ds })
-  pub rasp : (r : PartialText) → rooms (flat bs) ≡ length r
-      → all_put (all_put r (reverse (removal_changes (taken_runs g 0 (flat bs))))) (reverse (edit_changes es)) ≡ rasp_of (sent g (cells_of text r (flat bs)))
-  pub cells : (r : PartialText) → rooms (flat bs) ≡ length r
-      → cells_of text (all_put (all_put r (reverse (removal_changes (taken_runs g 0 (flat bs))))) (reverse (edit_changes es))) (flat ds) ≡ sent g (cells_of text r (flat bs))
-  pub over : (r : PartialText) → rooms (flat bs) ≡ length r
-      → rooms (flat ds) ≡ length (all_put (all_put r (reverse (removal_changes (taken_runs g 0 (flat bs))))) (reverse (edit_changes es)))
-
-pub sends : (text : List ℕ) (bs ds : List (List Run)) (es : List Edit) (g : ℕ) → IsLayer (record { text = text; blocks = bs }) → rooms (sent_runs g (flat bs)) ≤ max_runes
-    → IsSame (flat ds) (sent_runs g (flat bs))
-    → ((v : PartialText) → left_rooms g (flat bs) ≤ length v → all_put v (reverse (edit_changes es)) ≡ all_put v (reverse (put_runs text g 0 (flat bs))))
-    → Sends text bs ds es g
-sends text bs ds es g h m same made = record {
-  layer = record {
-    text = h.text;
-    within = same.within (length text) (within-sent g (length text) (flat bs) h.within);
-    rasp = omega (arith, same.rooms, m);
-    waiting = omega (arith, same.waits, waits-sent g (flat bs), h.waiting);
-  };
-  rasp = λ r e. rasp r e;
-  cells = λ r e.
-      ap (λ z. cells_of text z (flat ds)) (rasp r e) ∙ (same.cells text (rasp_of (sent g (cells_of text r (flat bs)))) ∙ (sent-runs g text (flat bs) r h.within e).is);
-  over = λ r e. same.rooms ∙ ((sent-runs g text (flat bs) r h.within e).holds ∙ sym (ap length (rasp r e)));
-}
-  where
-    rasp : (r : PartialText) → rooms (flat bs) ≡ length r
-        → all_put (all_put r (reverse (removal_changes (taken_runs g 0 (flat bs))))) (reverse (edit_changes es)) ≡ rasp_of (sent g (cells_of text r (flat bs)))
-    rasp r e =
-        let t = sent-runs g text (flat bs) r h.within e in
-        let first : all_put r (reverse (removal_changes (taken_runs g 0 (flat bs)))) ≡ kept_all g r (flat bs) = t.taken 0 [] refl in
-        ap (λ z. all_put z (reverse (edit_changes es))) first ∙ (made (kept_all g r (flat bs)) (omega (arith, t.keeps)) ∙ t.made 0 [] refl)
-
 -- ## Nothing waits
 
 rest-run : (x : Run) (text : List ℕ) (r : PartialText) → run_rests x ≡ true → cells text r x ≡ resting (take (room x) r)
@@ -335,10 +265,6 @@ pub ruleset insert_facts = (inserts, above-most)
 pub ruleset remove_facts = (removes, removed_told, above-most)
 
 pub ruleset fill_facts = (fills, filled_shown, above-most)
-
-pub ruleset send_facts = (above-most)
-
-pub ruleset bring_facts = (sends)
 
 pub ruleset replace_facts = (above-most)
 

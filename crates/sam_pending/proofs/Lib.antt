@@ -3,8 +3,7 @@ pub mod GroupLaws
 pub mod RunLaws
 pub mod JoinLaws
 pub mod KeptLaws
-pub mod PutLaws
-pub mod SendLaws
+pub mod ShownLaws
 pub mod FillLaws
 pub mod SpotLaws
 pub mod FlatLaws
@@ -19,5 +18,4 @@ pub mod LayerLaws
 pub mod BlockLaws
 pub mod PartLaws
 pub mod FrameLaws
-pub mod WholeLaws
 pub mod PassLaws

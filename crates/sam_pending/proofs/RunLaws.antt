@@ -500,5 +500,3 @@ replaced_runs xs text g p q n r w e =
     ∙ (ap (λ z. z ++ cells_of text (drop (rooms f) r) k ++ cells_of text (drop (rooms k) (drop (rooms f) r)) c) h.head
     ∙ (ap (λ z. take_by is_shown p (cells_of text r xs) ++ z ++ cells_of text (drop (rooms k) (drop (rooms f) r)) c) middle
     ∙ ap (λ z. take_by is_shown p (cells_of text r xs) ++ (map (typed_by g None) s ++ dying g (part_by is_shown p q (cells_of text r xs))) ++ z) rest)))))
-
-pub ruleset sent_facts = (rooms-append)

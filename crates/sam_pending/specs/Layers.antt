@@ -1,15 +1,14 @@
 -- What waits over a rasp: runs, and the text of the runes in them. The rasp itself stands elsewhere.
-use Rattle.std.specs.Prelude.{◌≡◌, ◌≤◌, ◌↔◌, ◌-◌, ℕ, Bool, false, List, [], ◌∷◌, length, take, drop, map, reverse, Option, Some, option_map}
-use Rattle.sam_runes.specs.Texts.{max_runes, most_in_message}
+use Rattle.std.specs.Prelude.{◌≡◌, ◌≤◌, ◌↔◌, ◌-◌, ℕ, Bool, false, List, length, take, drop, map, Option, Some, option_map}
+use Rattle.sam_runes.specs.Texts.{max_runes}
 use Rattle.sam_runes.specs.declared.edit.Edit.{Edit}
-use Rattle.sam_pending.specs.Cells.{PartialText, Cell, IsTakenBack, all_put}
+use Rattle.sam_pending.specs.Cells.{PartialText, Cell, IsTakenBack}
 use Rattle.sam_pending.specs.Groups.{IsPutUpTo, TakesPlace}
 use Rattle.sam_pending.specs.Blocks.{flat, made_in, taken_in, BlockChange, IsChange, changed}
-use Rattle.sam_pending.specs.Runs.{runes_of, cells_of, rooms, waits, above, newest_of, lost_in, Within, sent_runs, removal_changes, edit_changes, first_due, edit_at, next_deed}
+use Rattle.sam_pending.specs.Runs.{runes_of, cells_of, rooms, waits, above, newest_of, lost_in, Within, first_due, edit_at, next_deed}
 use Rattle.sam_pending.specs.declared.run.Run.{Run}
 use Rattle.sam_pending.specs.declared.run.Run.TheVariants.{Held, Typed}
 use Rattle.sam_pending.specs.declared.told.Dropped.{Dropped}
-use Rattle.sam_pending.specs.declared.told.Sent.{Sent}
 use Rattle.sam_pending.specs.declared.told.Shown.{Shown}
 use Rattle.sam_pending.specs.declared.told.Shown.TheVariants.{Rasp, Waiting}
 
@@ -62,19 +61,6 @@ pub record IsTidied (l k : Layer) : Type 0 where
   pub rasp : rasp_length k ≡ rasp_length l
   pub waiting : waiting_length k ≡ waiting_length l
   pub shown : shown_length k ≡ shown_length l
-
--- how many members the rasp has once the group came to it
-abbrev pub sent_length : ℕ → Layer → ℕ
-sent_length g l = rooms (sent_runs g (runs_of l))
-
--- the rasp after the edits of a group: all removals, the last first, and then all insertions, the last first
-abbrev pub sent_text : PartialText → Sent → PartialText
-sent_text r s = all_put (all_put r (reverse (removal_changes s.removals.items))) (reverse (edit_changes s.insertions.items))
-
--- no edit has more runes than a message takes
-abbrev pub AreShort : List Edit → Type 0
-AreShort [] = Unit {0}
-AreShort (e ∷ es) = (length e.text ≤ most_in_message) × AreShort es
 
 -- the next edit by which what waits comes to the rasp, of the groups up to that limit, if there is one; none where none of them waits
 abbrev pub next_edit : Option ℕ → Layer → Option Edit

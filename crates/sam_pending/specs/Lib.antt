@@ -3,5 +3,4 @@ pub mod Groups
 pub mod Runs
 pub mod Layers
 pub mod Faults
-pub mod Puts
 pub mod Blocks

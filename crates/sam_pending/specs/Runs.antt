@@ -1,6 +1,6 @@
 -- Stretches of cells of one sort, as the code keeps them. The rasp below keeps its members, and the runes that wait stand in one text.
 use Rattle.std.specs.Prelude.{◌≡◌, ℕ, zero, suc, ◌+◌, ◌-◌, ◌≤◌, max, min, not, Bool, true, false, nat_lt, nat_le, ◌==◌, ◌&&◌, ◌||◌, if◌then◌else◌, List, [], ◌∷◌, ◌++◌, map, take, drop, Option, Some, None, is_none}
-use Rattle.sam_pending.specs.Cells.{Member, PartialText, Cell, Change, by, in_rasp, is_shown, is_group}
+use Rattle.sam_pending.specs.Cells.{Member, PartialText, Cell, Change, by, in_rasp, is_shown}
 use Rattle.sam_runes.specs.declared.edit.Edit.{Edit}
 use Rattle.sam_pending.specs.declared.run.Stretch.{Stretch}
 use Rattle.sam_pending.specs.declared.run.Run.{Run}
@@ -149,48 +149,6 @@ filled_run n k (Typed s b d) = []
 abbrev pub filled_runs : ℕ → ℕ → List Run → List Filling
 filled_runs n k [] = []
 filled_runs n k (x ∷ xs) = filled_run n k x ++ filled_runs (n + above (x ∷ [])) (k + room x) xs
-
--- ## A group comes to the rasp
-
--- the run that is left of a run
-abbrev pub sent_run : ℕ → Run → List Run
-sent_run g (Held n d) = if is_group g d then [] else Held n d ∷ []
-sent_run g (Typed s b d) = if is_group g d then [] else (if g == b then Held s.count d ∷ [] else Typed s b d ∷ [])
-
-abbrev pub sent_runs : ℕ → List Run → List Run
-sent_runs g [] = []
-sent_runs g (x ∷ xs) = sent_run g x ++ sent_runs g xs
-
--- the removals of the group, where n members of the rasp stand before
-abbrev pub taken_run : ℕ → ℕ → Run → List Removal
-taken_run g n (Held k d) = if is_group g d then record { p = n; q = n + k } ∷ [] else []
-taken_run g n (Typed s b d) = []
-
-abbrev pub taken_runs : ℕ → ℕ → List Run → List Removal
-taken_runs g n [] = []
-taken_runs g n (x ∷ xs) = taken_run g n x ++ taken_runs g (n + room x) xs
-
--- how many members of the rasp are left of the run once the group's removals are made
-abbrev pub left_room : ℕ → Run → ℕ
-left_room g (Held k d) = if is_group g d then 0 else k
-left_room g (Typed s b d) = 0
-
-abbrev pub left_rooms : ℕ → List Run → ℕ
-left_rooms g [] = 0
-left_rooms g (x ∷ xs) = left_room g x + left_rooms g xs
-
--- runes that come in at a place
-abbrev pub insertion : ℕ → List ℕ → Change
-insertion n s = record { p = n; q = n; new = map Some s }
-
--- what the group puts in, where n members of the rasp stand before once its removals are made
-abbrev pub put_run : List ℕ → ℕ → ℕ → Run → List Change
-put_run t g n (Held k d) = []
-put_run t g n (Typed s b d) = if is_group g d then [] else (if g == b then insertion n (runes_of t s) ∷ [] else [])
-
-abbrev pub put_runs : List ℕ → ℕ → ℕ → List Run → List Change
-put_runs t g n [] = []
-put_runs t g n (x ∷ xs) = put_run t g n x ++ put_runs t g (n + left_room g x) xs
 
 -- ## Runs that stand for the same
 
@@ -351,9 +309,6 @@ lost_in m g y (x ∷ xs) = if is_due (Inserts m) x then passed g y x else lost_i
 
 abbrev pub edit_change : Edit → Change
 edit_change e = record { p = e.p; q = e.q; new = map Some e.text }
-
-abbrev pub edit_changes : List Edit → List Change
-edit_changes es = map edit_change es
 
 abbrev pub removal_change : Removal → Change
 removal_change e = record { p = e.p; q = e.q; new = [] }

@@ -1,9 +1,9 @@
 //! Lists of blocks: what `runs` and `due` do with runs, but past whole blocks by their sums.
 
-ghost use Rattle.std.specs.Prelude.{◌≡◌, ◌≤◌, ◌<◌, ◌+◌, ◌-◌, ◌^◌, ◌++◌, [], ◌∷◌, take, drop, vec_capacity, vec_len, IfOk, OnOk, OnErr, None};
+ghost use Rattle.std.specs.Prelude.{◌≡◌, ◌≤◌, ◌<◌, ◌+◌, ◌-◌, ◌^◌, ◌++◌, [], ◌∷◌, length, take, drop, vec_capacity, vec_len, IfOk, OnOk, OnErr, None};
 ghost use Rattle.sam_pending.specs.Blocks.{flat, made_in, taken_in};
 ghost use Rattle.sam_pending.specs.Layers.{most_kept};
-ghost use Rattle.sam_pending.specs.Runs.{above, back, dying_runs, first_due, first_typed, front, has_due, has_next, IsSame, newest_of, next_deed, rests, rooms, spot, waits, Within};
+ghost use Rattle.sam_pending.specs.Runs.{above, back, dying_runs, first_due, first_typed, front, has_due, has_next, IsSame, kept_runs, kept_text, newest_of, next_deed, rests, rooms, spot, waits, Within};
 ghost use Rattle.sam_pending.specs.declared.run.Run.{Run};
 ghost use Rattle.sam_pending.specs.declared.run.Run.TheVariants.{Typed};
 ghost use Rattle.sam_pending.specs.declared.run.Side.TheVariants.{Above};
@@ -229,6 +229,25 @@ pub(crate) fn cut(alloc: Global, runs: &[Run]) -> Result<Vec<Block>, AllocError>
         done = end;
     }
     Ok(blocks)
+}
+
+/// The runes that wait as a text of their own, and the blocks over it. It goes over all runs. The only error is out of memory.
+#[tactic(auto, using(crate::proofs::KeptLaws::kept_fits))]
+pub(crate) fn kept(
+    alloc: Global,
+    text: &[char],
+    blocks: &[Block],
+) -> Result<(Vec<char>, Vec<Block>), AllocError>
+    requires within { Within (length text.now) (flat blocks.now) }
+    requires text { length text.now < 2 ^ 32 }
+    requires fits { rooms (flat blocks.now) + waits (flat blocks.now) < 2 ^ 32 }
+    ensures { IfOk result (λ parts.
+        (parts.0.items ≡ kept_text text.now (flat blocks.now)) × (flat parts.1.items ≡ kept_runs 0 (flat blocks.now))) }
+{
+    let all = gathered(alloc, blocks)?;
+    let (kept, after) = runs::kept(alloc, text, all.as_slice())?;
+    let made = cut(alloc, after.as_slice())?;
+    Ok((kept, made))
 }
 
 /// Moves others to the end of the blocks, which have room for them.

@@ -13,8 +13,7 @@ mod places;
 mod run;
 mod runs;
 mod told;
-mod wholes;
 
 pub use fault::PendingFault;
 pub use pending::Pending;
-pub use told::{Dropped, Filling, Prepared, Removal, Sent, Shown};
+pub use told::{Dropped, Filling, Prepared, Removal, Shown};

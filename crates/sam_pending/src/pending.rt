@@ -2,17 +2,17 @@
 
 ghost use Rattle.std.specs.Prelude.{◌≡◌, ◌⊎◌, ◌<◌, ◌≤◌, ◌+◌, ◌-◌, ◌++◌, ◌↔◌, IsTrue, ℕ, List, [], ◌∷◌, false, length, take, drop, map, reverse, Some, None, Ok, Err, IfOk, IfSome, OnOk, OnErr, MatchOption, All, vec_capacity, vec_len};
 ghost use Rattle.sam_runes.specs.Texts.{max_runes};
-ghost use Rattle.sam_pending.specs.Cells.{PartialText, IsMade, all_put, place_at, put, rasp_of, shown_of, shown_place, waiting_of, IsNewest, resting, replaced, inserted, removed, filled, sent};
+ghost use Rattle.sam_pending.specs.Cells.{PartialText, IsMade, all_put, place_at, put, shown_of, shown_place, waiting_of, IsNewest, resting, replaced, inserted, removed, filled};
 ghost use Rattle.sam_pending.specs.Groups.{IsMadeBy, place_after_removal};
 ghost use Rattle.sam_pending.specs.Runs.{lost_in, rests, has_next, edit_change, removal_changes, filling_changes};
-ghost use Rattle.sam_pending.specs.Layers.{cells_over, rasp_length, waiting_length, shown_length, newest_group, sent_length, sent_text, shown_members, next_edit, next_made, DropsNext, first_dropped, runs_of, with_change, IsLayer, IsPrepared, IsOver, IsTidied, AreShort, SaysLeft, most_kept};
+ghost use Rattle.sam_pending.specs.Layers.{cells_over, rasp_length, waiting_length, shown_length, newest_group, shown_members, next_edit, next_made, DropsNext, first_dropped, runs_of, with_change, IsLayer, IsPrepared, IsOver, IsTidied, SaysLeft, most_kept};
 ghost use Rattle.sam_runes.specs.declared.edit.Edit.{Edit};
 
 use crate::block::Block;
 use crate::fault::PendingFault;
 use crate::run::{Run, Stretch};
-use crate::told::{Dropped, Filling, Prepared, Removal, Sent, Shown};
-use crate::{blocks, due, frames, places, runs, wholes};
+use crate::told::{Dropped, Filling, Prepared, Removal, Shown};
+use crate::{blocks, due, frames, places, runs};
 use sam_runes::{Edit, MAX_RUNES};
 use std::alloc::Global;
 use std::marker::Model;
@@ -25,8 +25,8 @@ const SPARE: usize = 1_024;
 
 /// Edits of one file that wait, over its rasp.
 ///
-/// A user changes the text that is shown, at once, also while the host has locked the file. Each change belongs to a *group*. The rasp has
-/// the changes of a group once it is sent; until then they wait. Frames of the host change the rasp, and through it what is shown. What a
+/// A user changes the text that is shown, at once, also while the host has locked the file. Each change belongs to a *group*. It waits
+/// until the edits that `next_edit` returns bring it to the rasp. Frames of the host change the rasp, and through it what is shown. What a
 /// user put in before stays, wherever the host changes the text round it.
 ///
 /// The rasp stands elsewhere: here is how many members (runes and gaps) it has, and what waits between them. A clause sees the cells of
@@ -36,14 +36,15 @@ const SPARE: usize = 1_024;
 /// let mut pending = Pending::new(alloc, 5)?; // `hello`, and nothing waits
 /// pending.replace(1, 5, 5, &['!'])?; // `hello!` is shown
 /// let place = pending.insert_by_host(5, 6)?; // the host put ` world` in at place 5 of the rasp: it is shown at 5, before the `!`
-/// let sends = pending.send(1)?; // `!` comes in at place 11 of the rasp
+/// let edit = pending.next_edit(Some(1))?; // of group 1 and those before it: `!` comes in at place 11 of the rasp
+/// pending.make_next(Some(1)); // the caller made that edit there, and nothing waits any more
 /// ```
 ///
-/// Runs, which are stretches of cells of one sort, stand in blocks with sums. `replace`, a change of the host's, the next edit and a place of
-/// what is shown pass over blocks, of some hundred runs each, and look into those in which something changes or stands, mostly one or two. A
-/// place of a request also looks into blocks in which a later group waits. A whole group that is sent costs as many steps as there are runs.
-/// Each change makes at most three runs more, and in the blocks that it changes those that can be one are joined: runes that are typed one
-/// after another are one run. At times the runes that wait are copied, when as many came to the rasp or went since the last time.
+/// Runs, which are stretches of cells of one sort, stand in blocks with sums. `replace`, a change of the host's, the next edit and a place
+/// of what is shown pass over blocks, of some hundred runs each, and look into those in which something changes or stands, mostly one or
+/// two. A place of a request also looks into blocks in which a later group waits. Each change makes at most three runs more, and in the
+/// blocks that it changes those that can be one are joined: runes that are typed one after another are one run. At times the runes that
+/// wait are copied, when as many came to the rasp or went since the last time.
 #[derive(Drop)]
 pub struct Pending {
     /// The runes that wait, and some that wait no more.
@@ -133,7 +134,7 @@ impl Pending {
     }
 
     /// Puts `runes` in the place of what is shown from place `p` to place `q`, in that group, which is not older than `newest`. They stand
-    /// behind what is shown before `p`. Runes that the group itself put in go for good; others go once the group is sent.
+    /// behind what is shown before `p`. Runes that the group itself put in go for good; others go once that edit comes to the rasp.
     ///
     /// Errors, in this order: `BadPosition` if `q` is less than `p` or past the end of what is shown; `TooLong` if there are runes and the
     /// rasp, the runes that wait (with what goes) and these are more than `MAX_RUNES` together; `OutOfMemory`. After an error all is
@@ -201,7 +202,7 @@ impl Pending {
         if self.text.len() <= 2 * waiting + SPARE {
             return;
         }
-        let made = wholes::kept(self.alloc, self.text.as_slice(), self.runs.as_slice());
+        let made = blocks::kept(self.alloc, self.text.as_slice(), self.runs.as_slice());
         if let Ok((text, runs)) = made {
             self.text = text;
             self.runs = runs;
@@ -346,60 +347,6 @@ impl Pending {
         }
         let told = frames::loaded(self.alloc, self.runs.as_slice(), p, count)?;
         Ok(told)
-    }
-
-    /// Brings a group to the rasp: returns its edits, which the caller makes there. What is shown stays. A caller sends the oldest group
-    /// that waits first. It makes all removals first, one after another, the last one of the list first; then all insertions, the last one
-    /// first. These have at most `MOST_IN_MESSAGE` runes each.
-    ///
-    /// Errors, in this order: `TooLong` if the rasp would have more than `MAX_RUNES` members, because the host put more in meanwhile;
-    /// `OutOfMemory`. After an error all is unchanged.
-    #[tactic(auto, using(crate::proofs::LayerLaws::send_facts))]
-    pub fn send(&mut self, group: u32) -> Result<Sent, PendingFault>
-        ensures rasp { IfOk result (λ sends. (r : PartialText) → IsOver r self.old
-            → sent_text r sends ≡ rasp_of (sent group (cells_over r self.old))) }
-        ensures cells { IfOk result (λ sends. (r : PartialText) → IsOver r self.old
-            → cells_over (sent_text r sends) self.new ≡ sent group (cells_over r self.old)) }
-        ensures over { IfOk result (λ sends. (r : PartialText) → IsOver r self.old → IsOver (sent_text r sends) self.new) }
-        ensures short { IfOk result (λ sends. AreShort sends.insertions.items) }
-        ensures len { OnOk result (rasp_length self.new ≡ sent_length group self.old) }
-        ensures long { (result ≡ Err PendingFault.TooLong) ↔ (max_runes < sent_length group self.old) }
-        ensures err { OnErr result ((self.new ≡ self.old)
-            × ((result ≡ Err PendingFault.TooLong) ⊎ (result ≡ Err PendingFault.OutOfMemory))) }
-    {
-        if self.sent_len(group) > MAX_RUNES {
-            return Err(PendingFault::TooLong);
-        }
-        let sends = self.bring(group)?;
-        self.tidy();
-        Ok(sends)
-    }
-
-    /// Returns how many members the rasp has once the group came to it.
-    #[tactic(auto, using(crate::proofs::LayerLaws::length_facts))]
-    fn sent_len(&self, group: u32) -> u32
-        ensures { result ≡ sent_length group self.now }
-    {
-        wholes::sent_len(self.runs.as_slice(), group)
-    }
-
-    /// As `send`, where the rasp has room.
-    #[tactic(auto, using(crate::proofs::LayerLaws::bring_facts))]
-    fn bring(&mut self, group: u32) -> Result<Sent, PendingFault>
-        requires { sent_length group self.old ≤ max_runes }
-        ensures rasp { IfOk result (λ sends. (r : PartialText) → IsOver r self.old
-            → sent_text r sends ≡ rasp_of (sent group (cells_over r self.old))) }
-        ensures cells { IfOk result (λ sends. (r : PartialText) → IsOver r self.old
-            → cells_over (sent_text r sends) self.new ≡ sent group (cells_over r self.old)) }
-        ensures over { IfOk result (λ sends. (r : PartialText) → IsOver r self.old → IsOver (sent_text r sends) self.new) }
-        ensures short { IfOk result (λ sends. AreShort sends.insertions.items) }
-        ensures len { OnOk result (rasp_length self.new ≡ sent_length group self.old) }
-        ensures err { OnErr result ((self.new ≡ self.old) × (result ≡ Err PendingFault.OutOfMemory)) }
-    {
-        let text = self.text.as_slice();
-        let (sends, left) = wholes::sent(self.alloc, text, self.runs.as_slice(), group)?;
-        self.runs = left;
-        Ok(sends)
     }
 
     /// Returns whether an edit is left to bring to the rasp, of the groups up to a limit, or of any group. While none is left the rasp is

@@ -1,17 +1,15 @@
 //! Lists of runs: what the user does, and what a frame of the host does.
 
-ghost use Rattle.std.specs.Prelude.{◌≡◌, ◌≤◌, ◌<◌, ◌+◌, ◌-◌, ◌^◌, ◌++◌, [], ◌∷◌, List, ℕ, length, reverse, IfOk, OnOk, None, Some};
-ghost use Rattle.sam_pending.specs.Runs.{front, back, rooms, room, waits, wait, waiting_run, waiting_runs, dying_run, dying_runs, above, gone_run, gone_runs, filled_run, filled_runs, sent_run, sent_runs, taken_run, taken_runs, newest_of, rests, reach, Within, size, IsSame, kept_run, kept_runs, kept_text, runes_of, spot, put_runs, left_room, left_rooms, edit_changes};
-ghost use Rattle.sam_pending.specs.Puts.{Puts, PutsRun};
-ghost use Rattle.sam_pending.specs.Cells.{PartialText, all_put};
-ghost use Rattle.sam_pending.specs.Layers.{most_kept, shown_members, part_members, AreShort};
+ghost use Rattle.std.specs.Prelude.{◌≡◌, ◌≤◌, ◌<◌, ◌+◌, ◌-◌, ◌^◌, ◌++◌, [], ◌∷◌, List, ℕ, length, IfOk, OnOk, None, Some};
+ghost use Rattle.sam_pending.specs.Runs.{front, back, rooms, waits, waiting_run, waiting_runs, dying_run, dying_runs, above, gone_run, gone_runs, filled_run, filled_runs, newest_of, rests, reach, Within, size, IsSame, kept_run, kept_runs, kept_text, runes_of, spot};
+ghost use Rattle.sam_pending.specs.Cells.{PartialText};
+ghost use Rattle.sam_pending.specs.Layers.{most_kept, shown_members, part_members};
 ghost use Rattle.sam_pending.specs.declared.run.Run.{Run};
 ghost use Rattle.sam_pending.specs.declared.run.Run.TheVariants.{Held, Typed};
 ghost use Rattle.sam_pending.specs.declared.run.Side.TheVariants.{Below, Above};
 
 use crate::run::{Run, Side, Stretch};
 use crate::told::{Filling, Removal, Shown};
-use sam_runes::{Edit, MOST_IN_MESSAGE, Runes};
 use std::alloc::{AllocError, Global};
 
 /// Puts the run before the place that is `left` further on, or behind it, or its two parts. Returns how far the place is from its end.
@@ -248,64 +246,6 @@ pub(crate) fn append_dying(to: &mut Vec<Run>, group: u32, runs: &[Run]) -> Resul
     Ok(())
 }
 
-/// Puts what the group removes of the run, where `at` members of the rasp stand before it, at the end of the removals, and what is left of
-/// the run at the end of the runs. The only error is out of memory.
-fn send_run(
-    removals: &mut Vec<Removal>,
-    left: &mut Vec<Run>,
-    group: u32,
-    at: u32,
-    run: Run,
-) -> Result<(), AllocError>
-    requires { at + room run < 2 ^ 32 }
-    ensures removals { OnOk result (removals.new.items ≡ removals.old.items ++ taken_run group at run) }
-    ensures left { OnOk result (left.new.items ≡ left.old.items ++ sent_run group run) }
-{
-    match run {
-        Run::Held(count, died) => {
-            if died == Some(group) {
-                removals.push(Removal {
-                    p: at,
-                    q: at + count,
-                })?;
-            } else {
-                left.push(Run::Held(count, died))?;
-            }
-        }
-        Run::Typed(runes, born, died) => {
-            if died == Some(group) {
-                return Ok(());
-            }
-            if group == born {
-                left.push(Run::Held(runes.count, died))?;
-            } else {
-                left.push(Run::Typed(runes, born, died))?;
-            }
-        }
-    }
-    Ok(())
-}
-
-/// The removals by which the group comes to the rasp, and the runs that are left. The only error is out of memory.
-#[tactic(auto, using(crate::proofs::RunLaws::gone_facts))]
-pub(crate) fn sent(
-    alloc: Global,
-    runs: &[Run],
-    group: u32,
-) -> Result<(Vec<Removal>, Vec<Run>), AllocError>
-    requires { rooms runs.now < 2 ^ 32 }
-    ensures { IfOk result (λ parts. (parts.0.items ≡ taken_runs group 0 runs.now) × (parts.1.items ≡ sent_runs group runs.now)) }
-{
-    let mut removals = Vec::new(alloc);
-    let mut left = Vec::new(alloc);
-    let mut at = 0;
-    for run in runs {
-        send_run(&mut removals, &mut left, group, at, *run)?;
-        at += run.room();
-    }
-    Ok((removals, left))
-}
-
 /// The runs with neighbours joined that are of one sort, and without empty ones. The only error is out of memory.
 #[tactic(auto, using(crate::proofs::JoinLaws::joined_facts))]
 pub(crate) fn joined(alloc: Global, runs: &[Run]) -> Result<Vec<Run>, AllocError>
@@ -411,89 +351,6 @@ pub(crate) fn part_of(text: &[char], run: Run, at: u32) -> Shown<'_>
     }
 }
 
-/// Puts insertions of the runes at place `at` at the end of the edits, each of at most `MOST_IN_MESSAGE` runes. The only error is out of
-/// memory.
-#[tactic(auto, using(crate::proofs::PutLaws::piece_facts))]
-fn push_pieces(
-    alloc: Global,
-    edits: &mut Vec<Edit>,
-    at: u32,
-    runes: &[char],
-) -> Result<(), AllocError>
-    requires { AreShort edits.old.items }
-    ensures made { OnOk result (Puts at runes.now edits.old.items edits.new.items) }
-    ensures short { OnOk result (AreShort edits.new.items) }
-{
-    let mut done = 0;
-    while done < runes.len() {
-        let end = done + MOST_IN_MESSAGE.min(runes.len() - done);
-        let text = Runes::from_slice(alloc, &runes[done..end])?;
-        edits.push(Edit { p: at, q: at, text })?;
-        done = end;
-    }
-    Ok(())
-}
-
-/// Puts what the group puts in by the run, where `at` members of the rasp stand before it, at the end of the edits. Returns how many
-/// members stand behind it once the removals of the group are made. The only error is out of memory.
-#[tactic(auto, using(crate::proofs::PutLaws::run_facts))]
-fn push_insertions(
-    text: &[char],
-    edits: &mut Vec<Edit>,
-    alloc: Global,
-    group: u32,
-    at: u32,
-    run: Run,
-) -> Result<u32, AllocError>
-    requires within { reach run ≤ length text.now }
-    requires text { length text.now < 2 ^ 32 }
-    requires fits { at + room run < 2 ^ 32 }
-    requires short { AreShort edits.old.items }
-    ensures made { OnOk result (PutsRun text.now group at run edits.old.items edits.new.items) }
-    ensures short { OnOk result (AreShort edits.new.items) }
-    ensures place { IfOk result (λ n. n ≡ at + left_room group run) }
-{
-    match run {
-        Run::Held(count, died) => {
-            if died == Some(group) {
-                Ok(at)
-            } else {
-                Ok(at + count)
-            }
-        }
-        Run::Typed(runes, born, died) => {
-            if died != Some(group) && group == born {
-                let end = (runes.start + runes.count) as usize;
-                push_pieces(alloc, edits, at, &text[runes.start as usize..end])?;
-            }
-            Ok(at)
-        }
-    }
-}
-
-/// The insertions by which the group comes to the rasp once its removals are made, in ascending places. The only error is out of memory.
-#[tactic(auto, using(crate::proofs::PutLaws::insertions_facts))]
-pub(crate) fn insertions(
-    alloc: Global,
-    text: &[char],
-    runs: &[Run],
-    group: u32,
-) -> Result<Vec<Edit>, AllocError>
-    requires within { Within (length text.now) runs.now }
-    requires text { length text.now < 2 ^ 32 }
-    requires held { rooms runs.now < 2 ^ 32 }
-    ensures made { IfOk result (λ edits. (v : PartialText) → left_rooms group runs.now ≤ length v
-        → all_put v (reverse (edit_changes edits.items)) ≡ all_put v (reverse (put_runs text.now group 0 runs.now))) }
-    ensures short { IfOk result (λ edits. AreShort edits.items) }
-{
-    let mut edits = Vec::new(alloc);
-    let mut at = 0;
-    for run in runs {
-        at = push_insertions(text, &mut edits, alloc, group, at, *run)?;
-    }
-    Ok(edits)
-}
-
 /// The runs after the group puts the runes of a stretch of the text in place of what is shown from place `p` on, so many cells. The only
 /// error is out of memory.
 pub(crate) fn replaced(
@@ -591,34 +448,4 @@ pub(crate) fn loaded(
         start + shown_len(before.as_slice()),
         middle.as_slice(),
     )
-}
-
-/// Returns how many members of the rasp the runs hold once the group came to it.
-#[tactic(auto, using(crate::proofs::RunLaws::sent_facts))]
-pub(crate) fn sent_len(runs: &[Run], group: u32) -> u32
-    requires { rooms runs.now + waits runs.now < 2 ^ 32 }
-    ensures { result ≡ rooms (sent_runs group runs.now) }
-{
-    let mut count = 0;
-    for run in runs {
-        count += sent_room(*run, group);
-    }
-    count
-}
-
-/// Returns how many members of the rasp the run holds once the group came to it.
-fn sent_room(run: Run, group: u32) -> u32
-    ensures room { result ≡ rooms (sent_run group run) }
-    ensures most { result ≤ room run + wait run }
-{
-    match run {
-        Run::Held(count, died) => { if died == Some(group) { 0 } else { count } }
-        Run::Typed(runes, born, died) => {
-            if died != Some(group) && group == born {
-                runes.count
-            } else {
-                0
-            }
-        }
-    }
 }

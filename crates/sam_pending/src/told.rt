@@ -1,7 +1,7 @@
 //! What calls of `Pending` tell their caller.
 
 use crate::block::Block;
-use sam_runes::{Edit, Runes};
+use sam_runes::Runes;
 use std::marker::Model;
 
 /// A change of the host's to the rasp, prepared: `Pending::take_on` makes it, and can't fail. It fits the layer that prepared it, as it was
@@ -67,15 +67,4 @@ pub enum Shown<'a> {
     Rasp(u32, u32),
     /// Runes that wait.
     Waiting(&'a [char]),
-}
-
-/// The edits by which a group comes to the rasp: first all removals are made, one after another, the last one of the list first; then all
-/// insertions, the last one first.
-#[derive(Drop)]
-pub struct Sent {
-    /// The removals, in ascending places of the rasp as it was.
-    pub removals: Vec<Removal>,
-    /// The insertions, in ascending places of the rasp without what the removals took. Each has at most `MOST_IN_MESSAGE` runes, and
-    /// several may stand at one place.
-    pub insertions: Vec<Edit>,
 }

@@ -1,5 +1,5 @@
 //! Steps of a layer of edits that wait, and what is shown after them.
-use sam_pending::{Pending, PendingFault, Sent, Shown};
+use sam_pending::{Pending, PendingFault, Shown};
 use sam_test_support::lent;
 
 /// A call, or a look with its answer.
@@ -15,8 +15,8 @@ enum Step<'a> {
     Remove(u32, u32, usize),
     /// The host stores so many runes from a place on, and so many stretches of what is shown have them.
     Fill(u32, u32, usize),
-    /// A group comes to the rasp, by so many removals and insertions.
-    Send(u32, usize, usize),
+    /// The groups up to this one come to the rasp, by so many removals and insertions.
+    BringUpTo(u32, usize, usize),
     /// The next edit is between these places of the rasp and has so many runes, and it is made.
     Make(u32, u32, usize),
     /// The same, of the groups up to this one.
@@ -37,6 +37,9 @@ enum Step<'a> {
 
 /// How many pieces a test reads at most.
 const MOST_PIECES: u32 = 100;
+
+/// How many edits a test makes by one step at most.
+const MOST_EDITS: u32 = 100;
 
 fn pieces(pending: &Pending) -> u32 {
     let mut place: u32 = 0;
@@ -75,8 +78,22 @@ fn makes(
     Ok(edit.p == p && edit.q == q && edit.text.len() == count)
 }
 
-fn has(sends: &Sent, removals: usize, insertions: usize) -> bool {
-    sends.removals.len() == removals && sends.insertions.len() == insertions
+/// Makes the edits of the groups up to this one, so many as a step has at most. Returns how many of them remove, and how many insert.
+fn bring(pending: &mut Pending, group: u32) -> Result<(usize, usize), PendingFault> {
+    let mut removals: usize = 0;
+    let mut insertions: usize = 0;
+    for _ in 0..MOST_EDITS {
+        let Some(edit) = pending.next_edit(Some(group))? else {
+            return Ok((removals, insertions));
+        };
+        pending.make_next(Some(group));
+        if edit.text.len() == 0 {
+            removals = removals.saturating_add(1);
+        } else {
+            insertions = insertions.saturating_add(1);
+        }
+    }
+    Ok((removals, insertions))
 }
 
 /// Whether a call is taken on, or a look has its answer.
@@ -94,8 +111,8 @@ fn is_right(pending: &mut Pending, step: Step<'_>) -> Result<bool, PendingFault>
         Step::Insert(p, count, place) => Ok(pending.insert_by_host(p, count)? == place),
         Step::Remove(p, q, told) => Ok(pending.remove_by_host(p, q)?.len() == told),
         Step::Fill(p, count, told) => Ok(pending.fill_by_host(p, count)?.len() == told),
-        Step::Send(group, removals, insertions) => {
-            Ok(has(&pending.send(group)?, removals, insertions))
+        Step::BringUpTo(group, removals, insertions) => {
+            Ok(bring(pending, group)? == (removals, insertions))
         }
         Step::Make(p, q, count) => makes(pending, None, (p, q, count)),
         Step::MakeUpTo(group, p, q, count) => makes(pending, Some(group), (p, q, count)),
@@ -133,19 +150,21 @@ const STORY: [Step<'_>; 9] = [
     Step::Replace(2, 1, 4, &[]),
     Step::Fill(0, 11, 2),
     Step::Remove(3, 7, 1),
-    Step::Send(1, 0, 1),
-    Step::Send(2, 1, 0),
+    Step::BringUpTo(1, 0, 1),
+    Step::BringUpTo(2, 1, 0),
     Step::Rests,
 ];
 
-/// Runes that are typed one after another are one run, and once they are sent all that is shown is one run of the rasp.
-const MANY_KEYS: [Step<'_>; 6] = [
+/// Runes that are typed one after another are one run, and come to the rasp by one edit. The next change there makes one run of all.
+const MANY_KEYS: [Step<'_>; 8] = [
     Step::Replace(1, 2, 2, &['y']),
     Step::Keys(3, 1_000),
     Step::Pieces(3, 1_006),
     Step::Waits(1_001, 5),
-    Step::Send(1, 0, 2),
-    Step::Pieces(1, 1_006),
+    Step::BringUpTo(1, 0, 1),
+    Step::Pieces(3, 1_006),
+    Step::Insert(0, 1, 0),
+    Step::Pieces(1, 1_007),
 ];
 
 /// `hello` becomes `ho!`, one edit at a time: what goes is first.
@@ -184,7 +203,7 @@ const NO_ROOM: [Step<'_>; 8] = [
 ];
 
 #[test]
-fn edits_wait_and_are_sent(rt: HostRuntime) {
+fn edits_wait_and_come_to_the_rasp(rt: HostRuntime) {
     for steps in [
         STORY.as_slice(),
         MANY_KEYS.as_slice(),

@@ -3,7 +3,7 @@
 
 ghost use Rattle.std.specs.Prelude.{◌≡◌, ◌<◌, ◌≤◌, ◌+◌, ◌-◌, ◌++◌, ℕ, List, length, map, take, drop, reverse, Some, All};
 ghost use Rattle.sam_pending.specs.Groups.{DropsMovePlaces, EditsKeepText, PutIsText, RemovalsGoOutOfText, RemovalsMovePlaces};
-ghost use Rattle.sam_pending.specs.Cells.{Cell, PartialText, Change, put, all_put, members, in_rasp, is_shown, rasp_of, shown_of, waiting_of, resting, part_by, take_by, drop_by, shown_place, replaced, inserted, removed, filled, sent, changes_of, gone_from, IsOf, text_at, place_at, IsOldest, IsNewest, IsMade, IsTakenBack};
+ghost use Rattle.sam_pending.specs.Cells.{Cell, PartialText, Change, put, all_put, members, in_rasp, is_shown, rasp_of, shown_of, waiting_of, resting, part_by, take_by, drop_by, shown_place, replaced, inserted, removed, filled, gone_from, text_at, place_at, IsNewest, IsMade, IsTakenBack};
 ghost use Rattle.sam_waiting.specs.OneMachine.{Act, Ends, File, Leads, found, local_found, local_text, to_find, unasked};
 
 /// States that what is typed is what is seen: `s` in place of what was shown from `p` to `q`. While the edit waits the rasp stays.
@@ -57,31 +57,13 @@ pub fn resting_shows_the_rasp()
     ensures shown { (r : PartialText) → shown_of (resting r) ≡ r }
 {}
 
-/// States that as a group is sent what is shown stays, and the rasp changes by the changes of the group, one after another, the last first.
-pub fn sending_shows_nothing()
-    ensures shown { (g : ℕ) (cs : List Cell) → shown_of (sent g cs) ≡ shown_of cs }
-    ensures rasp { (g : ℕ) (cs : List Cell) → rasp_of (sent g cs) ≡ all_put (rasp_of cs) (reverse (changes_of g cs)) }
-{}
-
-/// States that after the last group is sent nothing waits: the rasp is what was shown.
-pub fn all_comes_to_the_rasp()
-    ensures { (g : ℕ) (cs : List Cell) → All (IsOf g) cs → sent g cs ≡ resting (shown_of cs) }
-{}
-
 /// States what a request of group `g` comes to: the text that was shown as it was asked for, which no later group changes. A frame that
-/// inserts does so in it, and once the groups before it are sent it is what the rasp becomes.
+/// inserts does so in it. `requests_find_what_was_shown` says that it is what the rasp becomes.
 pub fn requests_come_to_what_was_shown()
     ensures asked { (cs : List Cell) (g : ℕ) → All (IsNewest g) cs → text_at g cs ≡ shown_of cs }
     ensures later { (cs : List Cell) (g h p q : ℕ) (s : List ℕ) → g < h → text_at g (replaced h p q s cs) ≡ text_at g cs }
     ensures inserted { (cs : List Cell) (g p : ℕ) (new : PartialText) →
         text_at g (inserted p new cs) ≡ take (place_at g p cs) (text_at g cs) ++ new ++ drop (place_at g p cs) (text_at g cs) }
-    ensures sent { (cs : List Cell) (g : ℕ) → All (IsOldest g) cs → rasp_of (sent g cs) ≡ text_at g cs }
-{}
-
-/// States that to put an edit into a group and to send it at once is to make the edit, where nothing waits.
-pub fn one_path_serves()
-    ensures { (r : PartialText) (g p q : ℕ) (s : List ℕ) → p ≤ q →
-        sent g (replaced g p q s (resting r)) ≡ resting (take p r ++ map Some s ++ drop q r) }
 {}
 
 /// States that as runes are taken back what is shown changes by one removal, and the rasp stays.
