@@ -104,6 +104,33 @@ def check_crossing(folder):
         expect_equal({step: text.count(f"word{step}x") for step in range(100) if text.count(f"word{step}x") != 1}, {})
 
 
+# Command lines, the keys before their answer comes and those after it, and the text that is left of "one two\nthree\nfour\nfive\n".
+AMID = (
+    ("0a/new\\n/", "3Gd", "d", "new\none two\nthree\nfive\n"),
+    ("0a/new\\n/", "2Gdw<Esc>g~", "j", "new\none two\n\nFOUR\nfive\n"),
+    ("0a/new\\n/", "3GV", "d", "new\none two\nthree\nfive\n"),
+    ("#0a/x\\ny /", "gg0wve", "d", "x\ny one \nthree\nfour\nfive\n"),
+    ("0a/new\\n/", "3G0v$<C-g>", "X<Esc>", "new\none two\nthree\nXfive\n"),
+    ("0a/new\\n/", "2G<F2>", "x", "new\none two\nhree\nfour\nfive\n"),  # a key for which a mapping waits
+)
+
+
+def check_amid(folder):
+    """An operator, and a selection, is of the text of which the user began it, if the host changes the text before the next key comes."""
+    with Place(folder, 150) as place:
+        neovim = place.opened("notes.txt", "")
+        neovim.command("nnoremap <expr> <F2> nr2char(getchar())")
+        for line, first, then, wanted in AMID:
+            neovim.lua("vim.api.nvim_buf_set_lines(0, 0, -1, true, { 'one two', 'three', 'four', 'five' })")
+            neovim.wait_settled()
+            neovim.command(f"SulgrevadRun {line}")
+            neovim.ask("nvim_input", first)
+            time.sleep(1)  # in which the host's answer comes
+            neovim.ask("nvim_input", then)
+            neovim.wait_settled()
+            expect_equal((first, place.expect_same(neovim, "notes.txt")), (first, wanted))
+
+
 def check_insertion(folder):
     """Undo of an insertion into which the host's change came takes back what was typed before and after, and the host's change between."""
     with Place(folder, 100) as place:
@@ -340,7 +367,8 @@ def check_signal(folder):
     """Where a signal ends Neovim, as when its terminal goes, the host has its text, or while the line is lost it is kept here."""
     with Place(folder, 10) as place:
         neovim = place.opened("notes.txt", "one\n")
-        neovim.keys("Ax<Esc>")
+        neovim.lua("vim.api.nvim_input('Ax<Esc>d')")  # amid an operator
+        neovim.wait("vim.fn.mode(1)", "no")
         neovim.process.send_signal(signal.SIGHUP)
         wait_until(lambda: neovim.process.poll() is not None, "Neovim does not end")
         place.host.wait_written("notes.txt.sam-saved", "onex\n")

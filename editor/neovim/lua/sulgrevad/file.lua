@@ -168,30 +168,39 @@ function File:save_line()
   self.saved = api.nvim_buf_get_changedtick(self.buf)
 end
 
--- Has `act` change the buffer, as a step of undo of its own, or as more of one that stayed open. Cursors stay at their text. The step stays
--- open where more of the host's answer is to come, until the user changes something.
+-- Has `act` change the buffer, as a step of undo of its own, or as more of one that stayed open. Cursors and selections stay at their text.
+-- The step stays open where more of the host's answer is to come, until the user changes something.
 function File:change(act)
-  local buf, marks = self.buf, {}
+  local buf, marks, mode = self.buf, {}, vim.fn.mode()
   local was_modifiable, tick = vim.bo[buf].modifiable, api.nvim_buf_get_changedtick(buf)
   local is_open = self.open_step == tick or self.saved == tick -- nothing was typed into the step of that line
-  self.is_changing, vim.bo[buf].modifiable = true, true
-  for _, window in ipairs(vim.fn.win_findbuf(buf)) do
-    local row, column = unpack(api.nvim_win_get_cursor(window))
-    marks[window] = api.nvim_buf_set_extmark(buf, space, row - 1, column, { strict = false })
+  self.is_changing = true
+  if not was_modifiable then vim.bo[buf].modifiable = true end -- to set it takes the end of a line out of a selection
+  local function mark(row, column) return api.nvim_buf_set_extmark(buf, space, row - 1, column, { strict = false }) end
+  local function go_to(window, at)
+    local row, column = unpack(api.nvim_buf_get_extmark_by_id(buf, space, at, {}))
+    if row then pcall(api.nvim_win_set_cursor, window, { row + 1, column }) end
+    api.nvim_buf_del_extmark(buf, space, at)
   end
+  for _, window in ipairs(vim.fn.win_findbuf(buf)) do marks[window] = mark(unpack(api.nvim_win_get_cursor(window))) end
+  local is_selected = mode:find "[vV\22sS\19]" and api.nvim_get_current_buf() == buf
+  local start = is_selected and mark(vim.fn.line "v", vim.fn.col "v" - 1)
   local function end_step(more) vim.cmd("let &g:undolevels = &g:undolevels" .. (more or "")) end
   local is_right, why = pcall(api.nvim_buf_call, buf, function()
     end_step(is_open and "| silent! undojoin")
     act()
     end_step()
   end)
-  for window, mark in pairs(marks) do
-    local row, column = unpack(api.nvim_buf_get_extmark_by_id(buf, space, mark, {}))
-    if row then pcall(api.nvim_win_set_cursor, window, { row + 1, column }) end
-    api.nvim_buf_del_extmark(buf, space, mark)
+  if start then
+    local to_other_end = "normal! " .. (mode:find "[sS\19]" and "\7o\7" or "o") -- of the selection
+    vim.cmd(to_other_end)
+    go_to(0, start)
+    vim.cmd(to_other_end)
   end
+  for window, at in pairs(marks) do go_to(window, at) end
   self:save_line()
-  self.is_changing, vim.bo[buf].modifiable = nil, was_modifiable
+  if not was_modifiable then vim.bo[buf].modifiable = false end
+  self.is_changing = nil
   self.open_step = self:has_more() and api.nvim_buf_get_changedtick(buf)
   if not is_right then error(why, 0) end
 end

@@ -96,10 +96,17 @@ function Session:wake()
   self.is_awake = true
 end
 
+-- Whether buffers can get what the host changed: not while an operator waits for its motion, since that keeps the number of its line, and
+-- not where Neovim lets no text change, as while a mapping with <expr> waits for a key, which no function says.
+local function is_ready()
+  local _, why = pcall(api.nvim_win_close, -1, true)
+  return is_leaving or not vim.fn.mode(1):find "^no" and not why:find "E523" and not why:find "E565"
+end
+
 -- Goes on with all that waits. An error ends the session here, and the buffers keep their texts.
 function Session:go_on()
   self.is_awake = false
-  if self.over or self.is_going then return end
+  if self.over or self.is_going or not is_ready() then return end
   self.is_going = true
   local is_right, why = xpcall(function()
     self.line:tick()
