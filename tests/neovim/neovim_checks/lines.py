@@ -131,6 +131,21 @@ def check_amid(folder):
             expect_equal((first, place.expect_same(neovim, "notes.txt")), (first, wanted))
 
 
+def check_message(folder):
+    """Words that come in Insert mode take no key of the user's, though they fill the screen, and are shown once that mode is over."""
+    with Place(folder) as place:
+        neovim = place.opened("notes.txt", "one\n")
+        neovim.ask("nvim_ui_attach", 80, 10, {})
+        neovim.ask("nvim_input", "A")
+        neovim.lua("require('sulgrevad.session').say(('word '):rep(50))")
+        neovim.ask("nvim_input", " two")
+        neovim.wait("vim.api.nvim_get_current_line()", "one two")
+        neovim.ask("nvim_input", "<Esc>")
+        wait_until(lambda: neovim.ask("nvim_get_mode")["mode"] == "r", "the words are not shown")
+        neovim.ask("nvim_input", "<CR>")
+        neovim.wait_told("word word")
+
+
 def check_insertion(folder):
     """Undo of an insertion into which the host's change came takes back what was typed before and after, and the host's change between."""
     with Place(folder, 100) as place:

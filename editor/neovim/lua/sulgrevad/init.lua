@@ -1,5 +1,4 @@
 -- What the user has: commands, and buffers with names as sulgrevad://box/notes.txt. All else is the session's.
-local ffi = require "ffi"
 local api = vim.api
 
 local M = { sessions = {}, files = {} } -- by the words that name the host in a buffer's name; by the numbers of buffers
@@ -101,13 +100,6 @@ function M.new_file(session, path)
   return M.files[buf]
 end
 
--- Whether Neovim ends once the write is done, as by :wq and :wqa. No option or event says so.
-local function is_exiting()
-  pcall(ffi.cdef, "bool exiting;")
-  local is_known, is = pcall(function() return ffi.C.exiting end)
-  return not is_known or is
-end
-
 -- BufWriteCmd: has the host write the file. It is shown as modified until the host has done so.
 function M.write(buf, name)
   local file = M.files[buf]
@@ -117,7 +109,7 @@ function M.write(buf, name)
   if name ~= file.name then fail "not written: a file of the host keeps its name" end
   if not session.over then session:write(file) end -- which may end it
   if session.over then fail("not written: %s; :w NAME writes it here", session.over) end
-  if is_exiting() then
+  if require("sulgrevad.session").is_exiting() ~= false then
     wait(session, SECONDS_TO_WRITE, function() return not file.writing end)
     if vim.bo[buf].modified then fail("%s is not written", file.path) end
     return

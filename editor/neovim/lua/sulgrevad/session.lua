@@ -21,17 +21,31 @@ local NAME = "^%x%x%x%x%x%x%x%x%x%x%x%x%x%x%x%x$" -- of a session: it becomes a 
 local GAP = 0xFFFFFFFF -- SAM_GAP: a rune that is not loaded
 
 local is_leaving = false -- Neovim ends
+local unsaid = {} -- words that are still to be shown, with their highlights
+
+-- Whether Neovim ends once a write is done, as by :wq and :wqa, or nil where that is not known. No option or event says so.
+function M.is_exiting()
+  pcall(ffi.cdef, "bool exiting;")
+  local is_known, is = pcall(function() return ffi.C.exiting end)
+  if is_known then return is end
+end
 
 -- Says words that stay when Neovim has ended: if it has a screen of its own, on the one before, whose cursor is kept behind them.
 function M.say_last(words)
   io.stderr:write(uv.guess_handle(2) == "tty" and ("\27[?1049l%s\r\n\27[?1049h"):format(words) or words .. "\n")
 end
 
--- Shows words for people. Neovim would end them at U+0000.
+-- Shows words for people, in Normal mode: in Insert mode short ones would go at once, and long ones take the user's next key. Neovim would
+-- end them at U+0000.
 function M.say(words, highlight)
   words = "sulgrevad: " .. words:gsub("%z", "^@")
   if is_leaving then return highlight == "ErrorMsg" and M.say_last(words) end
-  vim.schedule(function() api.nvim_echo({ { words, highlight } }, true, {}) end)
+  table.insert(unsaid, { words, highlight })
+  local function show()
+    if vim.fn.mode() ~= "n" or M.is_exiting() then return vim.defer_fn(show, TICK) end
+    api.nvim_echo({ table.remove(unsaid, 1) }, true, {})
+  end
+  vim.schedule(show)
 end
 
 -- Begins a session: `command` runs samhost; `takes` is the name of another terminal's session, perhaps empty, or nil. `new_file` makes a
@@ -503,6 +517,10 @@ end
 -- Ends the session once the host has all. If it does not answer, the session stays there: then returns words about it.
 function Session:leave()
   is_leaving = true
+  while #unsaid > 0 do
+    local words, highlight = unpack(table.remove(unsaid, 1))
+    if highlight == "ErrorMsg" then M.say_last(words) end
+  end
   if self.over then return end
   self:go_on()
   vim.wait(1000 * SECONDS_TO_LEAVE, function() return self.over or self.line:is_late() or self:has_all() end, 10)
