@@ -165,6 +165,37 @@ def check_replacing(folder):
         expect_equal(place.expect_same(neovim, "notes.txt"), "onex\n")
 
 
+def check_replacing_by_habit(folder):
+    """A second :w, or :wq, that comes before the host has refused the first replaces no text of another program."""
+    with Place(folder, 100) as place:
+        neovim = place.opened("notes.txt", "one\n")
+        for keys in (":w\n:w\n", ":w\n:wq\n"):
+            place.host.write("notes.txt", f"other text {keys}")
+            neovim.keys(f"Ax<Esc>{keys}")
+            neovim.wait(ANSWERED, True)
+            neovim.wait_settled()
+            expect_equal((place.host.read("notes.txt"), neovim.lua("return vim.bo.modified")), (f"other text {keys}", True))
+            expect_equal(place.expect_same(neovim, "notes.txt"), neovim.text)
+        neovim.lua("vim.cmd 'silent write'; vim.api.nvim_buf_set_lines(0, 0, 0, true, { 'last' }); vim.cmd 'silent write'")
+        neovim.wait(ANSWERED, True)
+        expect_equal((place.host.read("notes.txt"), neovim.lua("return vim.bo.modified")), ("last\nonexx\n", False))
+
+
+def check_replacing_at_end(folder):
+    """Where :wq replaces another program's text, it is told where that is now."""
+    with Place(folder) as place:
+        neovim = place.opened("notes.txt", "one\n")
+        neovim.keys("Ax<Esc>")
+        place.host.write("notes.txt", "other text\n")
+        neovim.command("write")
+        neovim.wait_told("the next write replaces it")
+        neovim.ask("nvim_input", ":wq<CR>")
+        wait_until(lambda: neovim.process.poll() is not None, "Neovim does not end")
+        told = (neovim.folder / "errors").read_text()
+        expect("what another program had written there is in" in told, told)
+        expect_equal(place.host.read("notes.txt"), "onex\n")
+
+
 def check_leave(folder):
     """:wq writes and ends the session; after :bd the file can be opened again; :w NAME writes here."""
     with Place(folder) as place:

@@ -301,6 +301,20 @@ def check_silent(folder):
         expect(place.line(neovim) != process, "the line is the same")
 
 
+def check_write_refused(folder):
+    """Where a write waits for a dead line, and the text is too long since, another write fails and tells why."""
+    with Place(folder, 10) as place:
+        neovim = lost_and_edited(place)
+        neovim.command("write")
+        neovim.lua("vim.api.nvim_buf_set_lines(0, 0, 0, true, {('x'):rep(1000000)})")
+        expect_equal(neovim.lua("vim.cmd 'silent! write' return vim.bo.modified"), True)
+        expect("is not written" in neovim.lua("return vim.v.errmsg"), neovim.told)
+        place.host.dead.unlink()
+        neovim.command("SulgrevadReconnect")
+        place.host.wait_written("notes.txt", "onex\n")
+        expect_equal(neovim.lua("return vim.bo.modified"), True)
+
+
 def check_copies(folder):
     """While the line is lost a changed text is kept here, also if Neovim is killed; once the host has all the copy goes."""
     with Place(folder, 10) as place:

@@ -364,8 +364,11 @@ end
 -- The text of a buffer is about to go: the client is told of it, and what the host may not have is kept here.
 function Session:unload(file)
   if not file.is_filled then return end
-  if file:is_touched() and not self.over then file:tell() end
-  if self.over or not self:has_all() then self:keep_copy(file) end
+  if not self.over then
+    if file:is_touched() then file:tell() end
+    if file.is_next then self:ask_write(file) end
+  end
+  if self.over or file.refusal or not self:has_all() then self:keep_copy(file) end
 end
 
 -- Closes a file for good. The host keeps a copy of what was not written.
@@ -377,22 +380,29 @@ function Session:close(file)
   self:go_on()
 end
 
--- Has the host write a file. What became of it shows in `writing`, and in whether the file is unsaved.
+-- Has the host write a file. What became of it shows in `writing`, and in whether the file is unsaved. While a write is not answered the
+-- next one waits: it would replace what the first may be refused for.
 function Session:write(file)
   local options = vim.bo[file.buf]
   if options.fixendofline and not options.binary and not options.endofline then options.endofline = true end
   file:tell() -- also of changes that no event has told
-  if file.refusal then return M.say(("%s is not written: %s"):format(file.path, file.refusal), "ErrorMsg") end
+  if file.refusal then error(("sulgrevad: %s is not written: %s"):format(file.path, file.refusal), 0) end
+  file.is_next = file.writing ~= nil
+  if not file.is_next then self:ask_write(file) end
+  self:go_on()
+end
+
+function Session:ask_write(file)
   self:must("write", file.tag, library.place)
   local task = library.place[0]
-  file.writing, self.answers[task] = task, function(note)
+  file.writing, file.is_next, self.answers[task] = task, false, function(note)
     if file.writing == task then file.writing = nil end
     if not note then return end
     local is_saved = note.kind == C.SAM_NOTE_SAVED
     local is_plain = is_saved and note.code == C.SAM_NOTE_NO_CODE
-    M.say(is_plain and ("%s: %s is written"):format(self.label, file.path) or note.text, not is_saved and "ErrorMsg" or nil)
+    M.say(is_plain and ("%s: %s is written"):format(self.label, file.path) or note.text, not is_plain and "ErrorMsg" or nil)
+    if is_saved and file.is_next and not file.refusal then self:ask_write(file) end
   end
-  self:go_on()
 end
 
 -- Has the host read a file anew from its disk, as a hidden file. Its text takes the place of the buffer's; undo takes that back.
