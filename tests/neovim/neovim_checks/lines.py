@@ -332,6 +332,25 @@ def check_copies(folder):
         wait_until(lambda: not [*neovim.folder.glob("*.sam-here*")], "the copy stays")
 
 
+def check_copies_of_refused(folder):
+    """A text that is too long for the host is kept here, also if Neovim is killed or the buffer closed, until it is short enough."""
+    with Place(folder) as place:
+        neovim = place.opened("notes.txt", "one\n")
+        copy = neovim.folder / "notes.txt.sam-here"
+        neovim.lua("vim.api.nvim_buf_set_lines(0, 0, 0, true, {('x'):rep(1000000)})")
+        wait_until(lambda: copy.exists() and len(copy.read_text()) == 1_000_005, "there is no copy")
+        neovim.keys("ggdd")
+        neovim.wait_settled()
+        wait_until(lambda: not copy.exists(), "the copy stays")
+        neovim.keys("u")
+        neovim.wait("vim.bo.modified", True)
+        neovim.command("bdelete!")
+        neovim.wait_told(f"the text of notes.txt is in {copy}")
+        neovim.wait("next(select(2, next(require('sulgrevad').sessions)).files) == nil", True)
+        time.sleep(1)  # two ticks of the clock
+        expect_equal(len(copy.read_text()), 1_000_005)
+
+
 def check_copies_of_closed(folder):
     """What is closed or unloaded while the line is lost, and isn't at the host, is kept here until it is, also when Neovim ends."""
     with Place(folder, 10) as place:

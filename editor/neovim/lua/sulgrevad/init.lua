@@ -151,7 +151,7 @@ function M.leave()
       local words = "sulgrevad: %s: %s; the session stays there: :Sulgrevad %s --take %s"
       last(words:format(session.label, why, session.command, session.line.name))
     end
-    for _, words in ipairs((why or was_over) and session:keep_copies() or {}) do last(words) end
+    for _, words in ipairs(session:keep_copies(why or was_over)) do last(words) end
   end
 end
 

@@ -371,10 +371,15 @@ function Session:unload(file)
   if self.over or file.refusal or not self:has_all() then self:keep_copy(file) end
 end
 
--- Closes a file for good. The host keeps a copy of what was not written.
+-- Closes a file for good, also one that is still to come. The host keeps a copy of what was not written.
 function Session:close(file)
-  if self.over or not file.tag or file.is_closing or self.files[file.tag] ~= file then return end
   file.is_closing, file.is_filled = true, false
+  if self.over or not file.tag then return end
+  local words = file.refusal and self:words_of_copy(file)
+  if words then
+    M.say(words, "WarningMsg")
+    self.copies[file.tag] = nil -- it stays
+  end
   self:close_tag(file.tag)
   self:once(function() return not self:file_state(file.tag).is_known end, function() self.files[file.tag] = nil end)
   self:go_on()
@@ -474,36 +479,42 @@ function Session:keep_copy(file)
   file.kept, self.copies[file.tag] = copy and tick, copy or self.copies[file.tag] or false
 end
 
--- Keeps here the texts that are modified. Returns words about each copy.
-function Session:keep_copies()
+-- Words about the copy of a file, or nil.
+function Session:words_of_copy(file)
+  local copy = self.copies[file.tag]
+  if copy == false then return "no file can be written here for " .. file.path end
+  return copy and ("the text of %s is in %s"):format(file.path, copy)
+end
+
+-- Keeps here the texts that are modified, if `is_lost`, or else those that the client refuses. Returns words about each copy.
+function Session:keep_copies(is_lost)
   local words = {}
-  for tag, file in pairs(self.files) do
-    if file.is_filled then self:keep_copy(file) end
-    local copy = self.copies[tag]
-    if copy then words[#words + 1] = ("the text of %s is in %s"):format(file.path, copy) end
-    if copy == false then words[#words + 1] = "no file can be written here for " .. file.path end
+  for _, file in pairs(self.files) do
+    if file.is_filled and (is_lost or file.refusal) then self:keep_copy(file) end
+    words[#words + 1] = self:words_of_copy(file)
   end
   return words
 end
 
--- The copies go, if the host has all. Returns whether it has.
+-- The copies go, if the host has all, but those of texts that the client refuses. Returns whether it has.
 function Session:drop_copies()
   if not self:has_all() then return false end
-  for _, copy in pairs(self.copies) do
-    if copy then uv.fs_unlink(copy) end
+  for tag, copy in pairs(self.copies) do
+    local file = self.files[tag]
+    if not (file and file.refusal) then
+      if copy then uv.fs_unlink(copy) end
+      self.copies[tag] = nil
+    end
   end
-  self.copies = {}
   return true
 end
 
 -- The clock has gone on. While the line is lost, or the session is over, copies are kept, so that they are there if Neovim is killed.
 function Session:tick()
   self:go_on()
-  if not self.over and self:drop_copies() then return end
+  local is_lost = self.over or not self:drop_copies() and self.line:silence() > SECONDS_UNKEPT
   local seconds = uv.hrtime() / 1e9
-  if seconds - self.kept_at <= SECONDS_UNKEPT or not self.over and self.line:silence() <= SECONDS_UNKEPT then return end
-  self.kept_at = seconds
-  self:keep_copies()
+  if seconds - self.kept_at > SECONDS_UNKEPT and #self:keep_copies(is_lost) > 0 then self.kept_at = seconds end
 end
 
 --## The end
@@ -520,7 +531,7 @@ function Session:end_here(why)
   end
   if is_leaving then return end
   M.say(self.label .. ": " .. why, "WarningMsg")
-  for _, words in ipairs(self:keep_copies()) do M.say(words, "WarningMsg") end
+  for _, words in ipairs(self:keep_copies(true)) do M.say(words, "WarningMsg") end
   vim.cmd "redrawstatus!"
 end
 
