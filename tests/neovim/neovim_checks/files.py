@@ -1,6 +1,7 @@
 """Opening, writing, reading anew and leaving; what fails is told, and nothing is lost."""
 import shlex
 import shutil
+from pathlib import Path
 
 from checks import expect, expect_equal, wait_until
 
@@ -41,6 +42,42 @@ EDIT_BESIDE = """
 local label = vim.api.nvim_buf_get_name(0):match "^sulgrevad://([^/]*)/"
 vim.cmd("edit " .. vim.fn.fnameescape(("sulgrevad://%s/%s"):format(label, ...)))
 """
+
+
+def check_late(folder):
+    """What is opened while the line is dead comes once that is back, however often it is asked for; what is refused is told then, and what
+    was closed meanwhile is not there."""
+    with Place(folder, 10) as place:
+        neovim = place.opened("notes.txt", "one\n")
+        first = neovim.lua("return vim.api.nvim_get_current_buf()")
+        place.host.dead.touch()
+        place.cut(neovim)
+        neovim.wait("require('sulgrevad').status(0):find('LINE LOST') ~= nil")
+        for name in ("again.txt", "closed.txt", "none/new.txt", "anew.txt"):
+            place.host.write(Path(name).name, name)
+            neovim.lua(EDIT_BESIDE, name)
+            neovim.wait_told(f"{name} comes once the host answers")
+        neovim.command("edit")
+        neovim.command("bdelete closed.txt again.txt")
+        neovim.lua(EDIT_BESIDE, "again.txt")
+        neovim.command("split")
+        neovim.lua(EDIT_BESIDE, "./notes.txt")
+        place.host.dead.unlink()
+        neovim.command("SulgrevadReconnect")
+        neovim.wait_settled()
+        neovim.wait("vim.api.nvim_get_current_buf()", first)
+        neovim.wait_told("none/new.txt: ")
+        for name in ("anew.txt", "again.txt"):
+            neovim.command(f"buffer {name}")
+            neovim.wait(IS_FILLED, True)
+            expect_equal((neovim.text, neovim.lua("return vim.bo.modifiable")), (name, True))
+        neovim.wait(OPEN, 3)
+
+
+# Whether the text of the current buffer is there.
+IS_FILLED = "require('sulgrevad').files[vim.api.nvim_get_current_buf()].is_filled"
+# How many files the session of the current buffer has open.
+OPEN = "vim.tbl_count(require('sulgrevad').files[vim.api.nvim_get_current_buf()].session.files)"
 
 
 def check_failed_write(folder):
@@ -265,6 +302,10 @@ def check_refused(folder):
             neovim.command(f"silent! Sulgrevad {place.host.command} {name}")
             expect(told in neovim.lua("return vim.v.errmsg"), f"{name}: {neovim.told!r}")
             expect(not neovim.lua("return vim.bo.modifiable"), f"{name} can be edited")
+        (place.host.folder / "none").mkdir()
+        neovim.command("edit")
+        neovim.keys("ihello<Esc>")
+        expect_equal(place.expect_same(neovim, "none/new.txt"), "hello\n")
         place.open(neovim, "new.txt")
         neovim.keys("ihello<Esc>")
         expect_equal(place.expect_same(neovim, "new.txt"), "hello\n")

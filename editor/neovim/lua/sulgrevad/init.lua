@@ -55,8 +55,17 @@ end
 local function set_up(buf)
   local options = vim.bo[buf]
   options.buftype = "acwrite"
-  options.fileformat = "unix" -- a carriage return is a character of the text
+  if options.fileformat ~= "unix" then options.fileformat = "unix" end -- a carriage return is a character of the text
   options.swapfile = false -- the host has the text, or a copy that is kept here
+end
+
+-- The host has said what becomes of a file that a buffer waits for: it comes, or is refused, or is in another buffer already.
+local function answered(file)
+  if M.files[file.buf] ~= file then return end
+  if file.refusal and file.is_late then say(("%s: %s"):format(file.path, file.refusal), "ErrorMsg") end
+  if not file.twin then return end
+  for _, window in ipairs(vim.fn.win_findbuf(file.buf)) do api.nvim_win_set_buf(window, file.twin) end
+  api.nvim_buf_delete(file.buf, { force = true })
 end
 
 -- BufReadCmd: shows the file that a buffer's name names. That of a file that is open comes from the host's disk.
@@ -65,30 +74,21 @@ function M.read(buf, name)
   if not label or not label:find(LABEL) then fail("no file is named by %s", name) end
   set_up(buf)
   local file = M.files[buf]
-  local is_open = file and not file.session.over and file.tag and file.session.files[file.tag] == file
-  local session = is_open and file.session or session_named(label)
-  if is_open then
-    session:go_on()
-    if session.line:is_late() then return say("the file is not read anew: " .. session.line:words(), "WarningMsg") end
-    session:reload(file)
-  else
-    file = session:open(path, buf)
+  if file and not file.session.over and file.tag then
+    file.session:go_on()
+    if file.session.line:is_late() then return say("the file is not read anew: " .. file.session.line:words(), "WarningMsg") end
+    file.session:reload(file)
+  elseif not file or file.session.over or file.refusal then -- else the host is asked already
+    file = session_named(label):open(path, buf, answered)
     M.files[buf] = file
   end
-  wait(session, SECONDS_TO_OPEN, function()
-    return file.is_filled and not file.is_reloading or not is_open and (file.refusal or file.twin)
+  file.is_late = not wait(file.session, SECONDS_TO_OPEN, function()
+    return file.is_filled and not file.is_reloading or not file.tag and (file.refusal or file.twin)
   end)
-  if file.twin then return vim.schedule(function() M.show_twin(buf, file.twin) end) end
-  if file.is_filled then return file:welcome() end
-  local why = not is_open and file.refusal or session.over
+  if file.is_filled then file:welcome() end
+  local why = not file.tag and file.refusal or file.is_late and file.session.over
   if why then fail("%s: %s", path, why) end
-  say(path .. " comes once the host answers", "WarningMsg")
-end
-
--- The file of this buffer is in another one already.
-function M.show_twin(buf, twin)
-  for _, window in ipairs(vim.fn.win_findbuf(buf)) do api.nvim_win_set_buf(window, twin) end
-  api.nvim_buf_delete(buf, { force = true })
+  if file.is_late then say(path .. " comes once the host answers", "WarningMsg") end
 end
 
 -- A file of a session, with a buffer of its own.

@@ -307,8 +307,9 @@ function Session:attend(file)
   return file:try_again()
 end
 
--- Has a buffer show the file at a path. What becomes of it shows in the file that is returned: is_filled, refusal or twin.
-function Session:open(path, buf)
+-- Has a buffer show the file at a path, which is returned. Once the host has said what becomes of it, it has a tag, a refusal or a twin,
+-- and `answered` is called.
+function Session:open(path, buf, answered)
   local file = files.new(self, path, buf)
   local function ask()
     self:request(C.SAM_NOTE_OPEN, 0, path, function(note)
@@ -316,12 +317,15 @@ function Session:open(path, buf)
       if note.kind ~= C.SAM_NOTE_OPENED then
         file.refusal = note.code == C.SAM_NOTE_IS_FOLDER and "it is a folder" or note.text
       elseif other and other.is_closing then -- again, once it is closed
-        self:once(function() return not self.files[note.tag] end, ask)
+        return self:once(function() return not self.files[note.tag] end, ask)
       elseif other then
         file.twin = other.buf
       else
         self:open_tag(note.tag, file)
+        local function is_known() return self:file_state(note.tag).is_known end
+        if file.is_closing then self:once(is_known, function() self:close(file) end) end
       end
+      vim.schedule(function() answered(file) end)
     end)
   end
   ask()
