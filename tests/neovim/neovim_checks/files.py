@@ -353,6 +353,24 @@ def check_takeover(folder):
         expect_equal((first.text, first.lua("return vim.bo.modified"), len(place.host.sessions())), ("onexz\n", False, 2))
 
 
+def check_takeover_back(folder):
+    """A session that is taken back has buffers of its own, whose names are those of files: they are written, and read anew."""
+    with Place(folder) as place:
+        first = place.opened("notes.lua", "one\n")
+        second = place.neovim()
+        second.command(f"Sulgrevad {place.host.command} --take")
+        first.wait_told("another terminal has taken the session over")
+        first.keys("Ax<Esc>")
+        old = first.lua("return vim.api.nvim_buf_get_name(0)")
+        first.command(f"Sulgrevad {place.host.command} --take")
+        first.wait(f"vim.api.nvim_buf_get_name(0) ~= {old!r} and vim.bo.modifiable and vim.bo.filetype", "lua")
+        first.keys("Ay<Esc>")
+        expect_equal(place.expect_same(first, "notes.lua"), "oney\n")
+        place.host.write("notes.lua", "other\n")
+        first.command("edit!")
+        expect_equal((first.text, first.lua(f"vim.cmd('buffer ' .. {old!r}) return vim.api.nvim_get_current_line()")), ("other\n", "onex"))
+
+
 def check_health(folder):
     """:checkhealth has the library and the session, and says what is missing."""
     with Place(folder) as place:

@@ -22,11 +22,11 @@ local function label_of(command)
   return label and label:find(LABEL) and label or "localhost"
 end
 
--- The session of a command, which begins where there is none.
+-- The session of a command, which begins where there is none. The buffers of one that is over keep their names.
 local function session_of(command, takes)
   local first, number = label_of(command), 1
   local label, session = first, M.sessions[first]
-  while session and not session.over and (session.command ~= command or takes) do
+  while session and (session.over and next(session.files) or not session.over and (session.command ~= command or takes)) do
     number = number + 1
     label = first .. "-" .. number
     session = M.sessions[label]
