@@ -1,6 +1,7 @@
 """Command lines, and lines that are slow, break or are dead, while the user types."""
 import os
 import random
+import shutil
 import signal
 import time
 
@@ -299,6 +300,17 @@ def check_silent(folder):
         neovim.wait_settled()
         expect_equal(place.expect_same(neovim, "notes.txt"), "onexyz\n")
         expect(place.line(neovim) != process, "the line is the same")
+
+
+def check_no_folder(folder):
+    """A line comes back also if the folder is gone in which the session began."""
+    with Place(folder, 10) as place:
+        neovim = place.opened("notes.txt", "one\n")
+        shutil.rmtree(neovim.folder)
+        place.cut(neovim)
+        neovim.keys("Ax<Esc>")
+        neovim.wait_settled()
+        expect_equal(place.expect_same(neovim, "notes.txt"), "onex\n")
 
 
 def check_write_refused(folder):

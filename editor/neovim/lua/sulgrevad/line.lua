@@ -19,7 +19,7 @@ function M.now() return math.floor(uv.hrtime() / 1e6) end
 function M.new(session, command, takes)
   local id = assert(uv.random(library.number.SAM_LINK_ID_BYTES))
   local line = setmetatable({
-    client = ffi.gc(ffi.new "sam_client", C.sam_client_free), session = session, command = command, takes = takes, folder = uv.cwd(),
+    client = ffi.gc(ffi.new "sam_client", C.sam_client_free), session = session, command = command, takes = takes, folder = uv.cwd() or ".",
     told = "", name = id:sub(1, 8):gsub(".", function(byte) return ("%02x"):format(byte:byte()) end),
   }, Line)
   must("client_new", line.client, id, takes ~= nil, M.now())
@@ -56,7 +56,7 @@ function Line:connect()
   end
   local is_made, job = pcall(fn.jobstart, { "/bin/sh", "-c", quietly .. "exec " .. self.command .. " " .. words }, {
     on_stdout = of_newest(self.came), on_stderr = of_newest(self.tell), on_exit = of_newest(self.ended),
-    cwd = self.folder, detach = true, -- without the screen, on which ssh would ask
+    cwd = fn.isdirectory(self.folder) == 1 and self.folder or nil, detach = true, -- without the screen, on which ssh would ask
   })
   if not is_made or job <= 0 then
     must("client_not_connected", self.client, M.now())
