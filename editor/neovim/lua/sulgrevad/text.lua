@@ -44,9 +44,11 @@ end
 
 -- Where each line of a text ends, by its number.
 local function line_ends(text)
-  local ends = { [0] = 0 }
-  for newline in text:gmatch "()\n" do ends[#ends + 1] = newline end
-  ends[#ends + 1] = #text
+  local ends, at = { [0] = 0 }, 0
+  while at do
+    at = text:find("\n", at + 1, true)
+    ends[#ends + 1] = at or #text
+  end
   return ends
 end
 
