@@ -93,13 +93,6 @@ function File:is_touched()
   return self.tick ~= api.nvim_buf_get_changedtick(self.buf)
 end
 
--- The client rests: what was refused while the file was locked is told again once it isn't. Returns whether there is something to tell.
-function File:try_again()
-  if not self.is_refused_locked or not self:is_free() then return false end
-  self.is_refused_locked, self.tick = false, nil
-  return true
-end
-
 -- Tells the client that behind so many bytes of the text `old` gave way to `new`. Returns why that is refused, or nil.
 function File:replace(at, old, new)
   local front, back = self.same:sub(1, at), self.same:sub(at + #old + 1)

@@ -38,8 +38,7 @@ end
 -- The session that the names of buffers name so. One begins by g:sulgrevad_command, where there is none.
 local function session_named(label)
   local session = M.sessions[label]
-  if session and not session.over then return session end
-  if session then return session_of(session.command) end
+  if session then return session.over and session_of(session.command) or session end
   return session_of(label == "localhost" and "samhost" or (vim.g.sulgrevad_command or "ssh %s samhost"):format(label))
 end
 
@@ -218,7 +217,7 @@ function M.status(buf)
   if not buf or buf == 0 then buf = api.nvim_get_current_buf() end
   local file = M.files[buf]
   if not file then return "" end
-  local words = file.session.over or file.session.line:words()
+  local words = file.session.line:words()
   return words ~= "" and ("[%s]"):format(words) or file.writing and "[writing]" or ""
 end
 

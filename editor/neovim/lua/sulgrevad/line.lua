@@ -35,7 +35,7 @@ end
 
 -- Does what the clock says.
 function Line:tick()
-  while not self.why do
+  while not self.session.over do
     must("client_tick", self.client, M.now(), library.place)
     local tick = library.place[0]
     if tick == C.SAM_TICK_NOTHING then return end
@@ -82,15 +82,14 @@ end
 
 -- No connection comes any more.
 function Line:lose(why, is_gentle)
-  if self.why then return end
-  self.why = why
+  if self.session.over then return end
   self:drop(is_gentle)
   self.session:end_here(why)
 end
 
 -- Tries a line that is lost or silent at once.
 function Line:retry()
-  if not self.why and self:details().is_known and self:is_late() then self:connect() end
+  if not self.session.over and self:details().is_known and self:is_late() then self:connect() end
 end
 
 --## Bytes
@@ -142,11 +141,11 @@ end
 function Line:silence() return tonumber(self:details().silence) / 1000 end
 
 -- Whether there is no line, or an answer is late.
-function Line:is_late() return self.why ~= nil or self:is_broken() or self:silence() > SECONDS_LATE end
+function Line:is_late() return self.session.over ~= nil or self:is_broken() or self:silence() > SECONDS_LATE end
 
 -- How the line is, in words, or "" where it is well.
 function Line:words()
-  if self.why then return self.why end
+  if self.session.over then return self.session.over end
   if not self:is_broken() then return self:is_late() and ("no answer for %d s"):format(self:silence()) or "" end
   local goes_on = "connecting"
   if not self.job and try("client_due_in", self.client, M.now(), count) == 0 then

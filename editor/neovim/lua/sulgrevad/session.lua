@@ -52,7 +52,7 @@ end
 -- file with a buffer, of the session and a path, where another program wants one shown.
 function M.begin(label, command, takes, new_file)
   local session = setmetatable({
-    label = label, command = command, new_file = new_file, say = M.say, files = {}, hidden = {}, copies = {}, kept_at = 0,
+    label = label, command = command, new_file = new_file, say = M.say, files = {}, hidden = {}, copies = {}, kept_at = 0, is_lost = false,
     answers = {}, -- by the numbers of tasks: what is called with the host's answer, or with nil where none comes
     runs = {}, -- by the numbers of requests: command lines
     waiting = {}, -- what is done once the client rests and a condition holds
@@ -227,11 +227,11 @@ end
 -- Says that the line was lost, or is back, and has the statusline say how it is.
 function Session:tell_line()
   local is_broken, words = self.line:is_broken(), self.line:words()
-  if is_broken and not self.is_lost then M.say(self.label .. ": the line is lost; edits go on here", "WarningMsg") end
-  if self.is_lost and not is_broken then M.say(self.label .. ": the line is back") end
-  self.is_lost = is_broken
+  if is_broken ~= self.is_lost then
+    M.say(self.label .. (is_broken and ": the line is lost; edits go on here" or ": the line is back"), is_broken and "WarningMsg" or nil)
+  end
   if words ~= self.shown_words then vim.cmd "redrawstatus!" end
-  self.shown_words = words
+  self.is_lost, self.shown_words = is_broken, words
 end
 
 --## What samhost says
@@ -282,8 +282,7 @@ function Session:once(holds, act) table.insert(self.waiting, { holds = holds, ac
 function Session:rest()
   local waiting, has_acted = self.waiting, false
   for tag, file in pairs(self.files) do
-    local was_here = file.same and self:file_state(tag).is_open
-    if (was_here or self:is_here(tag)) and self:attend(file) then has_acted = true end
+    if (file.same or self:is_here(tag)) and self:attend(file) then has_acted = true end
   end
   self.waiting = {}
   for _, one in ipairs(waiting) do
@@ -304,7 +303,9 @@ function Session:attend(file)
   self:must("is_unsaved", file.tag, truth)
   local is_modified = truth[0] or file.writing ~= nil or file.refusal ~= nil
   if vim.bo[file.buf].modified ~= is_modified then vim.bo[file.buf].modified = is_modified end
-  return file:try_again()
+  if not file.is_refused_locked or not file:is_free() then return false end
+  file.is_refused_locked, file.tick = false, nil -- what was refused while the file was locked is told again
+  return true
 end
 
 -- Has a buffer show the file at a path, which is returned. Once the host has said what becomes of it, it has a tag, a refusal or a twin,
