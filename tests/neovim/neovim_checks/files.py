@@ -1,6 +1,7 @@
 """Opening, writing, reading anew and leaving; what fails is told, and nothing is lost."""
 import shlex
 import shutil
+import time
 from pathlib import Path
 
 from checks import expect, expect_equal, wait_until
@@ -369,6 +370,19 @@ def check_takeover_back(folder):
         place.host.write("notes.lua", "other\n")
         first.command("edit!")
         expect_equal((first.text, first.lua(f"vim.cmd('buffer ' .. {old!r}) return vim.api.nvim_get_current_line()")), ("other\n", "onex"))
+
+
+def check_takeover_of_nothing(folder):
+    """Where no file is open in a session that is taken over, the user hears so at once."""
+    with Place(folder) as place:
+        first = place.opened("notes.txt", "one\n")
+        first.command("bdelete")
+        first.wait_settled()
+        second = place.neovim()
+        start = time.monotonic()
+        second.command(f"Sulgrevad {place.host.command} --take")
+        second.wait_told("no file is open in the session")
+        expect(time.monotonic() - start < 25, "it takes as long as for a host that says nothing")
 
 
 def check_health(folder):

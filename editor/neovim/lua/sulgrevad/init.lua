@@ -173,10 +173,11 @@ function M.start(words)
   if not takes then return vim.cmd("edit " .. vim.fn.fnameescape(("sulgrevad://%s/%s"):format(session.label, rest))) end
   wait(session, SECONDS_TO_OPEN, function()
     local state = session:state()
-    return session.is_named and not state.command_locked and state.tags > 1
+    return session.is_named and not state.command_locked and state.version > 1 -- the host has named its files
   end)
   if session.over then fail("%s", session.over) end
   session:show_all()
+  if not next(session.files) then say("no file is open in the session", "WarningMsg") end
 end
 
 -- Completes the words of :Sulgrevad: commands, and behind samhost the host's paths.
