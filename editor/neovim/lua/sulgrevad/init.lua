@@ -141,17 +141,9 @@ function M.delete(buf)
   if file then file.session:close(file) end
 end
 
--- VimLeavePre: the sessions end. What a host may not have then is kept here.
+-- VimLeavePre: the sessions end.
 function M.leave()
-  local last = require("sulgrevad.session").say_last
-  for _, session in pairs(M.sessions) do
-    local was_over, why = session.over, session:leave()
-    if why then
-      local words = "sulgrevad: %s: %s; the session stays there: :Sulgrevad %s --take %s"
-      last(words:format(session.label, why, session.command, session.line.name))
-    end
-    for _, words in ipairs(session:keep_copies(why or was_over)) do last(words) end
-  end
+  for _, session in pairs(M.sessions) do session:leave() end
 end
 
 --## Commands

@@ -32,18 +32,18 @@ end
 
 -- Says words that stay when Neovim has ended: if it has a screen of its own, on the one before, whose cursor is kept behind them.
 function M.say_last(words)
-  io.stderr:write(uv.guess_handle(2) == "tty" and ("\27[?1049l%s\r\n\27[?1049h"):format(words) or words .. "\n")
+  io.stderr:write((uv.guess_handle(2) == "tty" and "\27[?1049lsulgrevad: %s\r\n\27[?1049h" or "sulgrevad: %s\n"):format(words))
 end
 
 -- Shows words for people, in Normal mode: in Insert mode short ones would go at once, and long ones take the user's next key. Neovim would
 -- end them at U+0000.
 function M.say(words, highlight)
-  words = "sulgrevad: " .. words:gsub("%z", "^@")
   if is_leaving then return highlight == "ErrorMsg" and M.say_last(words) end
   table.insert(unsaid, { words, highlight })
   local function show()
     if vim.fn.mode() ~= "n" or M.is_exiting() then return vim.defer_fn(show, TICK) end
-    api.nvim_echo({ table.remove(unsaid, 1) }, true, {})
+    local said = table.remove(unsaid, 1)
+    api.nvim_echo({ { "sulgrevad: " .. said[1]:gsub("%z", "^@"), said[2] } }, true, {})
   end
   vim.schedule(show)
 end
@@ -58,7 +58,6 @@ function M.begin(label, command, takes, new_file)
     waiting = {}, -- what is done once the client rests and a condition holds
   }, Session)
   session.line = lines.new(session, command, takes)
-  session.client = session.line.client
   session:ask(C.SAM_EVENT_OFFER_VERSION)
   session.timer = uv.new_timer()
   session.timer:start(TICK, TICK, vim.schedule_wrap(function() session:tick() end))
@@ -69,8 +68,8 @@ end
 --## The client
 
 -- Make a call of the client by its name without `sam_client_`.
-function Session:try(name, ...) return library.try("client_" .. name, self.client, ...) end
-function Session:must(name, ...) library.must("client_" .. name, self.client, ...) end
+function Session:try(name, ...) return library.try("client_" .. name, self.line.client, ...) end
+function Session:must(name, ...) library.must("client_" .. name, self.line.client, ...) end
 
 function Session:state()
   self:must("state", library.state)
@@ -369,10 +368,8 @@ end
 -- The text of a buffer is about to go: the client is told of it, and what the host may not have is kept here.
 function Session:unload(file)
   if not file.is_filled then return end
-  if not self.over then
-    if file:is_touched() then file:tell() end
-    if file.is_next then self:ask_write(file) end
-  end
+  if file:is_touched() and not self.over then file:tell() end
+  if file.is_next and not self.over then self:ask_write(file) end
   if self.over or file.refusal or not self:has_all() then self:keep_copy(file) end
 end
 
@@ -421,9 +418,7 @@ function Session:reload(file)
   local function is_free() return file:is_free() or not file.is_filled end
   local function accept(anew)
     if file.is_filled then
-      local note = library.note
-      ffi.fill(note, ffi.sizeof(note))
-      note.kind, note.tag, note.number = C.SAM_NOTE_RELOADED, file.tag, anew
+      local note = ffi.new("sam_note", { kind = C.SAM_NOTE_RELOADED, tag = file.tag, number = anew })
       library.must("note_write", note, "", "", "", bytes, library.MOST_BYTES, size)
       self:must("put_note", bytes, size[0], now())
       self:ask(C.SAM_EVENT_WRITE, file.tag)
@@ -540,24 +535,27 @@ function Session:end_here(why)
   vim.cmd "redrawstatus!"
 end
 
--- Ends the session once the host has all. If it does not answer, the session stays there: then returns words about it.
+-- Ends the session once the host has all. If it does not answer, the session stays there, and what it may not have is kept here.
 function Session:leave()
   is_leaving = true
-  while #unsaid > 0 do
-    local words, highlight = unpack(table.remove(unsaid, 1))
-    if highlight == "ErrorMsg" then M.say_last(words) end
+  while #unsaid > 0 do M.say(unpack(table.remove(unsaid, 1))) end
+  local was_over, has_all = self.over, false
+  if not was_over then
+    self:go_on()
+    vim.wait(1000 * SECONDS_TO_LEAVE, function() return self.over or self.line:is_late() or self:has_all() end, 10)
+    has_all = not self.over and self:drop_copies()
   end
-  if self.over then return end
-  self:go_on()
-  vim.wait(1000 * SECONDS_TO_LEAVE, function() return self.over or self.line:is_late() or self:has_all() end, 10)
-  if self.over or not self:drop_copies() then
+  if has_all then
+    self:ask(C.SAM_EVENT_EXIT)
+    self:go_on()
+    vim.wait(1000 * SECONDS_TO_LEAVE, function() return self.over or self.line:is_broken() end, 10)
+    self.line:lose "left"
+  elseif not was_over then
     self.line:lose "the host does not answer"
-    return self.over
+    local words = "%s: %s; the session stays there: :Sulgrevad %s --take %s"
+    M.say_last(words:format(self.label, self.over, self.command, self.line.name))
   end
-  self:ask(C.SAM_EVENT_EXIT)
-  self:go_on()
-  vim.wait(1000 * SECONDS_TO_LEAVE, function() return self.over or self.line:is_broken() end, 10)
-  self.line:lose "left"
+  for _, words in ipairs(self:keep_copies(not has_all)) do M.say_last(words) end
 end
 
 return M
