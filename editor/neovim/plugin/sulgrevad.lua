@@ -18,15 +18,12 @@ command("SulgrevadRun", "run", function(options) return options end, { nargs = 1
 command("SulgrevadReconnect", "reconnect", function() end, {})
 
 local group = vim.api.nvim_create_augroup("sulgrevad", {})
-local function on(event, method, words_of)
-  vim.api.nvim_create_autocmd(event, { group = group, pattern = "sulgrevad://*", callback = calls(method, words_of) })
+local methods = { BufReadCmd = "read", BufWriteCmd = "write", BufFilePre = "rename", BufUnload = "unload" }
+methods.BufDelete, methods.BufWipeout = "delete", "delete"
+for name, method in pairs(methods) do
+  local callback = calls(method, function(event) return event.buf, event.match end)
+  vim.api.nvim_create_autocmd(name, { group = group, pattern = "sulgrevad://*", callback = callback })
 end
-
-on("BufReadCmd", "read", function(event) return event.buf, event.match end)
-on("BufWriteCmd", "write", function(event) return event.buf, event.match end)
-on("BufFilePre", "rename", function(event) return event.buf end)
-on("BufUnload", "unload", function(event) return event.buf end)
-on({ "BufDelete", "BufWipeout" }, "delete", function(event) return event.buf end)
 vim.api.nvim_create_autocmd("VimLeavePre", { group = group, callback = function()
   if package.loaded.sulgrevad then require("sulgrevad").leave() end
 end })

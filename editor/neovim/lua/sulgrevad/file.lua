@@ -176,13 +176,12 @@ function File:change(act)
     api.nvim_buf_del_extmark(buf, space, at)
   end
   for _, window in ipairs(vim.fn.win_findbuf(buf)) do marks[window] = mark(unpack(api.nvim_win_get_cursor(window))) end
-  local is_selected = mode:find "[vV\22sS\19]" and api.nvim_get_current_buf() == buf
-  local start = is_selected and mark(vim.fn.line "v", vim.fn.col "v" - 1)
-  local function end_step(more) vim.cmd("let &g:undolevels = &g:undolevels" .. (more or "")) end
+  local start = mode:find "[vV\22sS\19]" and api.nvim_get_current_buf() == buf and mark(vim.fn.line "v", vim.fn.col "v" - 1)
+  local end_step = "let &g:undolevels = &g:undolevels"
   local is_right, why = pcall(api.nvim_buf_call, buf, function()
-    end_step(is_open and "| silent! undojoin")
+    vim.cmd(end_step .. (is_open and "| silent! undojoin" or ""))
     act()
-    end_step()
+    vim.cmd(end_step)
   end)
   if start then
     local to_other_end = "normal! " .. (mode:find "[sS\19]" and "\7o\7" or "o") -- of the selection
