@@ -10,13 +10,11 @@
 #include <stdio.h>
 #include <stdlib.h>
 #include <string.h>
+#include <sys/file.h>
 #include <sys/stat.h>
+#include <sys/xattr.h>
 #include <time.h>
 #include <unistd.h>
-#ifdef __linux__
-#include <sys/file.h>
-#include <sys/xattr.h>
-#endif
 
 #include "disk/file_writer.h"
 #include "disk/errors.h"
@@ -42,7 +40,6 @@ enum {
 /* Whether a file has attributes that a new file would not have, an access list among them. */
 static bool has_attributes(const char *path)
 {
-#ifdef __linux__
     char names[ATTRIBUTES_ROOM];
     ssize_t len = listxattr(path, names, sizeof names);
 
@@ -51,21 +48,12 @@ static bool has_attributes(const char *path)
             return true;
     }
     return len < 0 && errno == ERANGE;
-#else
-    (void)path;
-    return false;
-#endif
 }
 
 /* Takes from a new file the access list that its folder gave it. Returns whether it has none. */
 static bool drop_access_list(int file)
 {
-#ifdef __linux__
     return fremovexattr(file, ACCESS_LIST) == 0 || errno == ENODATA || errno == ENOTSUP;
-#else
-    (void)file;
-    return true;
-#endif
 }
 
 /* Gives a new file the owner, the group and the mode of the one in whose place it comes. EPERM where the system doesn't allow it. */
@@ -157,12 +145,7 @@ static int sync_folder(const char *path, int file)
 /* Locks an open folder, unless another host has it locked. Not every kind of file system can. */
 static bool is_locked_elsewhere(int file)
 {
-#ifdef __linux__
     return flock(file, LOCK_EX | LOCK_NB) != 0 && errno == EWOULDBLOCK;
-#else
-    (void)file;
-    return false;
-#endif
 }
 
 /* Whether a process of the user's has an open folder locked, as the system's list of locks says. */
