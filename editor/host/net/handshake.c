@@ -93,24 +93,6 @@ void name_of_id(const uint8_t id[SAM_LINK_ID_BYTES], char name[NAME_DIGITS + 1])
         snprintf(name + 2 * at, 3, "%02x", id[at]);
 }
 
-/* Gives another server the files of the one that a session has, under the same tags. */
-static sam_status copy_all(struct session *session, sam_server *into)
-{
-    char name[NAME_ROOM];
-    size_t tags = count_tags(session), len;
-    uint16_t tag;
-
-    for (size_t at = 1; at < tags; at++) {
-        if (take_text(session, (uint16_t)at) != 0 ||
-            sam_server_name(session->server, (uint16_t)at, (uint8_t *)name, NAME_ROOM, &len) != SAM_OK)
-            return SAM_NO_MEMORY;
-        sam_status code = sam_server_add_file(into, (const uint8_t *)name, len, session->text.bytes, session->text.len, &tag);
-        if (code != SAM_OK)
-            return SAM_NO_MEMORY;
-    }
-    return SAM_OK;
-}
-
 /* At the first hello, which says how the session is named in full: the files go over to a server of that name, and the first message stands
  * before all others. */
 static sam_status name_server(struct session *session, const uint8_t *id, const struct caller *caller)
@@ -124,17 +106,11 @@ static sam_status name_server(struct session *session, const uint8_t *id, const 
         memcpy(stay->home.name, name, sizeof name);
     sam_status code = strcmp(name, stay->home.name) != 0 ? SAM_LINK_OTHER_SESSION : named == NULL ? SAM_NO_MEMORY : SAM_OK;
     if (code == SAM_OK)
-        code = sam_server_new(named, id);
-    if (code == SAM_OK)
-        code = copy_all(session, named);
+        code = sam_server_heir(session->server, id, named);
     if (code == SAM_OK)
         code = sam_server_accept(named, caller->bytes, caller->len);
     bool is_taken = code == SAM_OK || code == SAM_UNFINISHED;
-    uint8_t before[SAM_LINK_ID_BYTES];
-    memcpy(before, stay->id, sizeof before);
-    memcpy(stay->id, id, SAM_LINK_ID_BYTES);
-    if (!is_taken || !put_first_message(session)) {
-        memcpy(stay->id, before, sizeof before);
+    if (!is_taken || !put_first_message(session, name)) {
         (void)sam_server_free(named);
         free(named);
         return is_taken ? SAM_NO_MEMORY : code;
@@ -142,6 +118,7 @@ static sam_status name_server(struct session *session, const uint8_t *id, const 
     (void)sam_server_free(session->server);
     free(session->server);
     session->server = named;
+    memcpy(stay->id, id, SAM_LINK_ID_BYTES);
     stay->is_named = true;
     if (takes_records(&stay->journal))
         begin_fresh_journal(session);

@@ -101,29 +101,17 @@ bool put_message(struct session *session, const struct event *event, const char 
     return true;
 }
 
-bool put_first_message(struct session *session)
+bool put_first_message(struct session *session, const char *name)
 {
-    struct stay *stay = session->stay;
-    struct message *others = stay->messages.waiting;
-    char machine[MACHINE_ROOM], name[NAME_DIGITS + 1];
+    struct messages *messages = &session->stay->messages;
+    struct message *others = messages->waiting;
+    char machine[MACHINE_ROOM];
 
     name_machine(machine);
-    name_of_id(stay->id, name);
-    stay->messages.waiting = NULL;
+    messages->waiting = NULL;
     bool is_put = put_message(session, &(struct event){.kind = SAM_NOTE_SESSION, .number = MESSAGES_VERSION, .path = name}, machine);
-    if (is_put)
-        stay->messages.waiting->next = others;
-    else
-        stay->messages.waiting = others;
+    *(is_put ? &messages->waiting->next : &messages->waiting) = others;
     return is_put;
-}
-
-void drop_first_message(struct messages *messages)
-{
-    struct message *first = messages->waiting;
-
-    messages->waiting = first->next;
-    free(first);
 }
 
 void put_messages(struct session *session)
@@ -136,7 +124,9 @@ void put_messages(struct session *session)
         sam_status code = sam_server_say(session->server, messages->waiting->bytes, messages->waiting->len);
         if (code != SAM_OK && code != SAM_UNFINISHED)
             return;
-        drop_first_message(messages);
+        struct message *first = messages->waiting;
+        messages->waiting = first->next;
+        free(first);
     }
     say_missing(messages);
 }

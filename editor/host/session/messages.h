@@ -47,11 +47,9 @@ void say_gathered(struct session *session);
 /* Puts a message behind those that wait, with words for people, which may be NULL. Returns whether there is memory for it. */
 bool put_message(struct session *session, const struct event *event, const char *words);
 
-/* Has the first message stand before all that wait: it says where the terminal has come to. Returns whether there is memory for it. */
-bool put_first_message(struct session *session);
-
-/* Takes the message back that stands first. */
-void drop_first_message(struct messages *messages);
+/* Has the first message stand before all that wait: it says where the terminal has come to, by the session's name. Returns whether there is
+ * memory for it. */
+bool put_first_message(struct session *session, const char *name);
 
 /* Says what happened: to the terminal of the session that listens, by a message with a sentence for people; else by that sentence on
  * standard error. */

@@ -152,18 +152,20 @@ static void name_anew(struct session *session, struct session *heir)
 static struct session *make_heir(struct session *session, const struct caller *caller, const uint8_t *id, sam_status *code)
 {
     struct session *heir = make_staying(&session->stay->home, session->stay->longest_alone);
+    char name[NAME_DIGITS + 1];
 
     *code = SAM_NO_MEMORY;
     if (heir == NULL)
         return NULL;
     memcpy(heir->stay->id, id, SAM_LINK_ID_BYTES);
+    name_of_id(id, name);
     if (make_session(heir))
         *code = sam_server_new(heir->server, id);
     if (*code == SAM_OK)
         *code = copy_files(session, heir) ? sam_server_accept(heir->server, caller->bytes, caller->len) : SAM_NO_MEMORY;
     if (*code == SAM_UNFINISHED)
         *code = SAM_OK;
-    if (*code == SAM_OK && !put_first_message(heir))
+    if (*code == SAM_OK && !put_first_message(heir, name))
         *code = SAM_NO_MEMORY;
     if (*code == SAM_OK)
         return heir;
