@@ -234,13 +234,6 @@ void drop_closed(struct session *session, uint64_t place)
 
 /* ---- Changed texts ---- */
 
-static bool has_file(struct session *session, size_t tag)
-{
-    bool has = false;
-
-    return sam_server_has_file(session->server, (uint16_t)tag, &has) == SAM_OK && has;
-}
-
 bool is_changed(struct session *session, uint16_t tag)
 {
     bool is_dirty = true;

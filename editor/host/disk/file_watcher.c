@@ -122,9 +122,7 @@ void watch_files(struct session *session)
 /* Whether a number is the tag of a file, other than the command file. */
 static bool is_tag(struct session *session, uint64_t tag)
 {
-    bool has = false;
-
-    return tag > 0 && tag < count_tags(session) && sam_server_has_file(session->server, (uint16_t)tag, &has) == SAM_OK && has;
+    return tag > 0 && tag < count_tags(session) && has_file(session, tag);
 }
 
 /* Adds what stands at a path as a file of its own. */

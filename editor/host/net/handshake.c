@@ -386,8 +386,7 @@ void report_closed(struct session *session)
 {
     for (int at = 0; at < MOST_WAITERS; at++) {
         const struct waiter *waiter = &session->stay->waiters[at];
-        bool has = true;
-        if (waiter->socket >= 0 && sam_server_has_file(session->server, waiter->tag, &has) == SAM_OK && !has)
+        if (waiter->socket >= 0 && !has_file(session, waiter->tag))
             report_closing(session, waiter->tag);
     }
 }

@@ -37,11 +37,8 @@ static uint16_t find_file(struct session *session, const struct identity *wanted
 
     for (size_t tag = 1; tag < tags && found == 0; tag++) {
         struct identity identity = {0};
-        bool has = false;
         int error;
-        if (is_hidden(session, tag) || sam_server_has_file(session->server, (uint16_t)tag, &has) != SAM_OK || !has)
-            continue;
-        char *path = path_of(session, (uint16_t)tag, &error);
+        char *path = is_hidden(session, tag) || !has_file(session, tag) ? NULL : path_of(session, (uint16_t)tag, &error);
         if (path != NULL && identify(path, &identity) == 0 && is_one_file(&identity, wanted))
             found = (uint16_t)tag;
         free(identity.name);

@@ -32,6 +32,13 @@ size_t count_tags(struct session *session)
     return sam_server_tags(session->server, &tags) == SAM_OK ? tags : 0;
 }
 
+bool has_file(struct session *session, size_t tag)
+{
+    bool has = false;
+
+    return sam_server_has_file(session->server, (uint16_t)tag, &has) == SAM_OK && has;
+}
+
 sam_status add_to_server(struct session *session, const char *name, const struct text *text, uint16_t *tag)
 {
     size_t next = count_tags(session);

@@ -55,6 +55,9 @@ int close_session(struct session *session, enum ending ending);
 /* How many tags the host has given; 0 where there is no host. */
 size_t count_tags(struct session *session);
 
+/* Whether the session has the file of a tag: it has joined, and is not closed. */
+bool has_file(struct session *session, size_t tag);
+
 /* Whether the terminal has closed the file just now while it was changed, and the server still lends its name and its text. */
 bool is_closing(struct session *session, uint16_t tag);
 

@@ -39,9 +39,7 @@
 
 static bool is_handed_on(struct session *session, size_t tag)
 {
-    bool has = false;
-
-    return !is_hidden(session, tag) && sam_server_has_file(session->server, (uint16_t)tag, &has) == SAM_OK && has;
+    return !is_hidden(session, tag) && has_file(session, tag);
 }
 
 /* Saves aside what is not written: the new server takes these files for written until they are marked as dirty, and wouldn't ask for
