@@ -69,12 +69,15 @@ void know_again(struct copy *copy)
     if (copy->path == NULL || lstat(copy->path, &now) != 0)
         return;
     seen.device = now.st_dev;
-    if (is_own(&seen) && is_same(content_at(seen.path), seen.content))
+    if (is_own(&seen) && is_same(content_at(seen.path), seen.content)) {
+        copy->is_unnoted = copy->device != seen.device;
         copy->device = seen.device;
+    }
 }
 
 void forget_copy(struct copy *copy)
 {
+    copy->is_unnoted |= copy->path != NULL;
     free(copy->path);
     copy->path = NULL;
 }

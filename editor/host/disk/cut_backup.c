@@ -12,6 +12,7 @@
 #include "disk/paths.h"
 #include "disk/saves.h"
 #include "limits.h"
+#include "session/document.h"
 #include "session/messages.h"
 #include "session/session.h"
 #include "sulgrevad.h"

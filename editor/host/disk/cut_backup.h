@@ -7,7 +7,6 @@
 
 #include "disk/file_writer.h"
 #include "disk/paths.h"
-#include "session/document.h"
 
 struct session;
 
@@ -17,8 +16,7 @@ struct session;
 struct cut {
     struct text snarf; /* room for a text (MOST_BYTES) */
     struct copy aside; /* of the user's */
-    struct copy_mark noted;
-    bool is_reported; /* it was said that it can't be saved */
+    bool is_reported;  /* it was said that it can't be saved */
 };
 
 /* Makes room for what is cut. Returns whether there is memory for it. */

@@ -341,7 +341,7 @@ int keep(const struct text *text, const char *name, const char *like, const char
     bool is_short = false;
     int error = 0;
 
-    *copy = (struct copy){0};
+    *copy = (struct copy){.is_unnoted = true};
     for (int which = 0; which <= OWN_FOLDERS; which++) {
         char *front;
         int found = front_at(which, name, &front);
@@ -359,7 +359,7 @@ int keep(const struct text *text, const char *name, const char *like, const char
 
 int keep_again(const struct text *text, struct copy *copy)
 {
-    struct copy new = {.path = copy->path, .is_temporary = copy->is_temporary};
+    struct copy new = {.path = copy->path, .is_temporary = copy->is_temporary, .is_unnoted = true};
     char *temporary = NULL;
     int file = -1, error = make_copy(text, copy->path, copy->path, &new, &temporary, &file);
 

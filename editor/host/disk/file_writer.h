@@ -22,6 +22,7 @@ struct copy {
     struct timespec written;
     struct content content;
     bool is_temporary; /* it is in a folder for temporary files, which may be in memory alone */
+    bool is_unnoted;   /* the journal has another one, or none */
 };
 
 /* A text that is to stand in a file. */

@@ -30,15 +30,9 @@ static void add_content(struct body *body, const struct content *content)
 
 static struct content take_content(struct record *record)
 {
-    struct content content = {.kind = NOT_THERE};
     uint64_t kind = take_number(record);
+    struct content content = {.kind = kind <= NOT_SURE ? kind : NOT_THERE};
 
-    if (kind == READ)
-        content.kind = READ;
-    else if (kind == NOT_READ)
-        content.kind = NOT_READ;
-    else if (kind == NOT_SURE)
-        content.kind = NOT_SURE;
     content.hash = take_number(record);
     content.len = take_number(record);
     return content;
@@ -54,7 +48,7 @@ static void add_copy(struct body *body, const struct copy *copy)
     add_content(body, &copy->content);
 }
 
-static void take_copy(struct record *record, struct copy *copy)
+void take_copy(struct record *record, struct copy *copy)
 {
     free(copy->path);
     copy->path = take_words(record);
@@ -134,55 +128,36 @@ void take_document(struct session *session, struct record *record)
     take_copy(record, &document.aside);
     take_known(record, &document);
     free_document(&session->documents[tag]);
-    document.noted = (struct copy_mark){document.aside.device, document.aside.inode, document.aside.written};
     session->documents[tag] = document;
     session->has_unmarked |= document.is_unmarked;
 }
 
 /* ---- Entries ---- */
 
-static bool is_noted(const struct copy *copy, const struct copy_mark *mark)
-{
-    return copy->path == NULL ? mark->inode == 0
-                              : copy->device == mark->device && copy->inode == mark->inode &&
-                                    copy->written.tv_sec == mark->written.tv_sec && copy->written.tv_nsec == mark->written.tv_nsec;
-}
-
-static void set_mark(const struct copy *copy, struct copy_mark *mark)
-{
-    *mark = copy->path == NULL ? (struct copy_mark){0} : (struct copy_mark){copy->device, copy->inode, copy->written};
-}
-
 void record_document(struct session *session, uint16_t tag)
 {
     struct body body = {0};
 
-    set_mark(&session->documents[tag].aside, &session->documents[tag].noted);
     add_document(&body, tag, &session->documents[tag]);
+    session->documents[tag].aside.is_unnoted = false;
     add_entry(session, ENTRY_KNOWN, &body);
 }
 
 void record_copies(struct session *session)
 {
-    struct cut *cut = &session->cut;
+    struct copy *cut = &session->cut.aside;
     size_t tags = count_tags(session);
 
     for (size_t tag = 1; tag < tags; tag++) {
-        if (!is_noted(&session->documents[tag].aside, &session->documents[tag].noted))
+        if (session->documents[tag].aside.is_unnoted)
             record_document(session, (uint16_t)tag);
     }
-    if (!is_noted(&cut->aside, &cut->noted)) {
+    if (cut->is_unnoted) {
         struct body body = {0};
-        set_mark(&cut->aside, &cut->noted);
-        add_copy(&body, &cut->aside);
+        add_copy(&body, cut);
+        cut->is_unnoted = false;
         add_entry(session, ENTRY_CUT, &body);
     }
-}
-
-void take_cut_copy(struct session *session, struct record *record)
-{
-    take_copy(record, &session->cut.aside);
-    set_mark(&session->cut.aside, &session->cut.noted);
 }
 
 void record_wanted(struct session *session, uint16_t tag, uint32_t request)

@@ -10,6 +10,7 @@
 #include "journal/journal.h"
 
 struct closed;
+struct copy;
 struct session;
 
 /* The form of the records. It grows with each change of what they say, so that no samhost takes up a session whose records it would read
@@ -51,8 +52,8 @@ void record_freed(struct session *session, size_t place);
 /* Records that the last message is said. */
 void record_ended(struct session *session, int status);
 
-/* Takes what a record says of a document, and of the copy of what was cut last. */
+/* Takes what a record says of a document, and of a copy. */
 void take_document(struct session *session, struct record *record);
-void take_cut_copy(struct session *session, struct record *record);
+void take_copy(struct record *record, struct copy *copy);
 
 #endif

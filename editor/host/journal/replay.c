@@ -134,7 +134,7 @@ static void replay_entry(struct replay *replay, uint8_t kind, struct record *rec
     else if (kind == ENTRY_KNOWN)
         take_document(session, record);
     else if (kind == ENTRY_CUT)
-        take_cut_copy(session, record);
+        take_copy(record, &session->cut.aside);
     else if (kind == ENTRY_WANTED)
         take_wanted(replay, take_number(record));
     else if (kind == ENTRY_ANSWERED)

@@ -4,7 +4,6 @@
 
 #include <stdbool.h>
 #include <sys/types.h>
-#include <time.h>
 
 #include "disk/file_watcher.h"
 #include "disk/file_writer.h"
@@ -31,23 +30,15 @@ struct known {
     bool is_theirs; /* another program's, found when it refused to write: what is written in its place keeps it beside the file */
 };
 
-/* By what a copy is known. All zero where there is none. */
-struct copy_mark {
-    dev_t device;
-    ino_t inode;
-    struct timespec written;
-};
-
 /* What the host of the library doesn't know of a file. */
 struct document {
     char *path;  /* where it was read; NULL for a file that the terminal made */
     char *shown; /* its name in the session, the end of a long path */
     struct known *known;
     struct copy aside;
-    struct copy_mark noted; /* the copy that the journal has */
-    bool is_unmarked;       /* its text is on no disk, and the host takes it for written until it is marked as dirty */
-    bool is_taken;          /* the terminal was told that it is not written, when it took the session over */
-    bool is_reported;       /* it was said that its text can't be saved */
+    bool is_unmarked; /* its text is on no disk, and the host takes it for written until it is marked as dirty */
+    bool is_taken;    /* the terminal was told that it is not written, when it took the session over */
+    bool is_reported; /* it was said that its text can't be saved */
     enum purpose purpose;
     bool is_reloaded; /* its text was read anew, and the next write may find it in its file */
     struct watch watch;
