@@ -37,20 +37,14 @@ enum {
 
 /* ---- Watching ---- */
 
-static bool is_same_time(struct timespec one, struct timespec other)
-{
-    return one.tv_sec == other.tv_sec && one.tv_nsec == other.tv_nsec;
-}
-
 /* Whether a file has other marks than at the last look, or there was none; notes them. */
-static bool has_new_marks(struct watch *watch, const struct stat *now)
+static bool has_new_marks(struct watch *watch, const struct stat *status)
 {
-    struct watch seen = {now->st_dev, now->st_ino, now->st_size, now->st_mtim, now->st_ctim, watch->is_told, watch->told, 0};
-    bool is_same = watch->device == seen.device && watch->inode == seen.inode && watch->size == seen.size &&
-                   is_same_time(watch->written, seen.written) && is_same_time(watch->marked, seen.marked);
+    struct content seen = watch->marks;
 
-    *watch = seen;
-    return !is_same;
+    watch->marks = marks_of(status);
+    watch->gone = 0;
+    return !is_same(watch->marks, seen);
 }
 
 /* A file that the session has read is not there. */

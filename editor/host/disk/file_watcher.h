@@ -5,8 +5,6 @@
 
 #include <stdbool.h>
 #include <stdint.h>
-#include <sys/types.h>
-#include <time.h>
 
 #include "disk/paths.h"
 
@@ -14,10 +12,7 @@ struct session;
 
 /* The marks of a file at the last look, and what it was known to have when it was told that another program changed it. */
 struct watch {
-    dev_t device;
-    ino_t inode;
-    off_t size;
-    struct timespec written, marked;
+    struct content marks;
     bool is_told;
     struct content told;
     int gone; /* at how many looks the file was gone since it was there last: the second is told */

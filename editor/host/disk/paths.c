@@ -120,12 +120,12 @@ struct content content_of(const struct text *text)
     return content;
 }
 
-/* What a file that can't be read, or is too long for a text, has: as far as its marks show. */
-static struct content marks_of(const struct stat *status)
+struct content marks_of(const struct stat *status)
 {
     const uint64_t marks[] = {
-        (uint64_t)status->st_dev,         (uint64_t)status->st_ino,          (uint64_t)status->st_size,
-        (uint64_t)status->st_ctim.tv_sec, (uint64_t)status->st_ctim.tv_nsec,
+        (uint64_t)status->st_dev,          (uint64_t)status->st_ino,          (uint64_t)status->st_size,
+        (uint64_t)status->st_ctim.tv_sec,  (uint64_t)status->st_ctim.tv_nsec, (uint64_t)status->st_mtim.tv_sec,
+        (uint64_t)status->st_mtim.tv_nsec,
     };
     struct content content = {.kind = NOT_READ, .hash = HASH_START};
 

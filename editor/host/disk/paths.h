@@ -9,13 +9,15 @@
 
 #include "limits.h"
 
+struct stat;
+
 struct text {
     uint8_t *bytes;
     size_t len;
 };
 
 /* What a file has, by which a change is found: the hash of its bytes, or where they can't be read that of its marks (device, inode,
- * time of change). */
+ * times of change). */
 struct content {
     enum { NOT_THERE, READ, NOT_READ, NOT_SURE } kind; /* not sure: a write has failed, and the disk may have anything */
     uint64_t hash, len;
@@ -38,6 +40,9 @@ int end_of_links(const char *path, char **end);
 
 struct content content_of(const struct text *text);
 struct content content_at(const char *path);
+
+/* What a file has as far as its marks show: one that can't be read, is too long for a text, or isn't to be read. */
+struct content marks_of(const struct stat *status);
 bool is_same(struct content one, struct content other);
 
 /* Reads all of an open file, of at most `most` bytes, into memory of the caller's. TEXT_TOO_LONG where it has more. */
