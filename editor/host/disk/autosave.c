@@ -89,15 +89,6 @@ void drop_copy(struct copy *copy)
     forget_copy(copy);
 }
 
-void replace_copy(struct copy *copy, const struct copy *newer)
-{
-    if (newer->is_temporary && newer->device != copy->device)
-        forget_copy(copy);
-    else
-        drop_copy(copy);
-    *copy = *newer;
-}
-
 /* Whether a copy is none of the host's own any more, on a disk that is still there: a copy that went with its disk, or that can't be looked
  * at, nobody has taken away. */
 static bool is_taken_away(const struct copy *copy)
@@ -131,18 +122,30 @@ static char *name_of(struct session *session, uint16_t tag)
     return own;
 }
 
-/* Saves the text in session->text where it was saved before, else in a new copy. */
+int save_copy(const struct text *text, const char *name, const char *like, struct copy *copy)
+{
+    struct copy newer;
+
+    if (is_own(copy) && (is_same(copy->content, content_of(text)) || keep_again(text, copy) == 0))
+        return 0;
+    int error = name == NULL ? ENOMEM : keep(text, name, like, SAVED, &newer);
+    if (error != 0)
+        return error;
+    if (newer.is_temporary && newer.device != copy->device) /* a power cut may leave neither */
+        forget_copy(copy);
+    else
+        drop_copy(copy); /* an older text, where there is no room for this one */
+    *copy = newer;
+    return 0;
+}
+
+/* Saves the text in session->text. */
 static int save_aside(struct session *session, uint16_t tag)
 {
-    struct copy *aside = &session->documents[tag].aside, copy;
-
-    if (is_own(aside) && (is_same(aside->content, content_of(&session->text)) || keep_again(&session->text, aside) == 0))
-        return 0;
     char *name = name_of(session, tag);
-    int error = name == NULL ? ENOMEM : keep(&session->text, name, name, SAVED, &copy);
+    int error = save_copy(&session->text, name, name, &session->documents[tag].aside);
+
     free(name);
-    if (error == 0)
-        replace_copy(aside, &copy); /* an older text, where there is no room for this one */
     return error;
 }
 

@@ -50,9 +50,9 @@ void forget_copy(struct copy *copy);
 /* Removes the copy of a text that stands elsewhere by now, where it is the host's own. */
 void drop_copy(struct copy *copy);
 
-/* Puts a newer copy in the place of one. The older one goes, where it is the host's own; but it stays where the newer one may be in memory
- * alone, since a power cut would leave neither. */
-void replace_copy(struct copy *copy, const struct copy *newer);
+/* Saves a text where it was saved before, else in a new copy, as keep does. An older copy goes then, where it is the host's own; but it stays
+ * where the newer one may be in memory alone. ENOMEM where the name is NULL. */
+int save_copy(const struct text *text, const char *name, const char *like, struct copy *copy);
 
 /* Whether a text stood whole in a copy that somebody took away since: he has seen to it. So a host whose line died unnoticed does not bring
  * back what another session has written or dropped long since. A copy that went with its disk nobody took away. */

@@ -81,21 +81,16 @@ static bool stands_in_a_file(struct session *session, const struct text *text)
 /* Saves what was cut last where it was saved before, else in a new copy; unless it stands in a file. */
 static int secure_cut(struct session *session)
 {
-    struct cut *cut = &session->cut;
-    struct copy *aside = &cut->aside, copy;
+    struct copy *aside = &session->cut.aside;
     const struct text *text = text_of(session);
 
     if (text->len == 0 || stands_in_a_file(session, text)) {
         drop_copy(aside);
         return 0;
     }
-    if (is_own(aside) && (is_same(aside->content, content_of(text)) || keep_again(text, aside) == 0))
-        return 0;
     char *name = from_folder(session, CUT);
-    int error = name == NULL ? ENOMEM : keep(text, name, NULL, SAVED, &copy);
+    int error = save_copy(text, name, NULL, aside);
     free(name);
-    if (error == 0)
-        replace_copy(aside, &copy);
     return error;
 }
 
