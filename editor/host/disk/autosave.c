@@ -175,13 +175,6 @@ static void tell_lost(uint16_t tag, const char *name, int error)
 
 /* ---- Texts of closed files ---- */
 
-static void free_closed(struct closed *closed)
-{
-    free(closed->name);
-    free(closed->text.bytes);
-    free(closed);
-}
-
 static int keep_closed(struct session *session, const struct closed *closed, struct copy *copy)
 {
     char *name = from_folder(session, closed->name);
@@ -191,13 +184,12 @@ static int keep_closed(struct session *session, const struct closed *closed, str
     return error;
 }
 
-/* Tries the texts again that could not be saved when their files were closed. What can't be saved is held on; the last time it is lost, but
- * that a journal keeps it. Returns whether all are saved. */
+/* Tries the texts again that could not be saved when their files were closed. What can't be saved is held on, so that each has its place in
+ * the journal; the last time it is told as lost. Returns whether all are saved. */
 static bool save_closed(struct session *session, bool is_last)
 {
     struct closed **next = &session->closed;
     size_t place = 0;
-    bool all = true;
 
     while (*next != NULL) {
         struct closed *closed = *next;
@@ -206,23 +198,19 @@ static bool save_closed(struct session *session, bool is_last)
         do
             error = keep_closed(session, closed, &copy);
         while (is_last && is_tried_again(error, &tries));
-        if (error == 0)
+        if (error == 0) {
             tell_aside(closed->tag, closed->name, copy.path);
-        else if (is_last)
-            tell_lost(closed->tag, closed->name, error);
-        all &= error == 0;
-        free(copy.path);
-        if (error == 0)
             record_freed(session, place);
-        else
-            place++;
-        if (error == 0 || is_last) {
-            *next = closed->next;
-            free_closed(closed);
-        } else
+            drop_closed(session, place);
+        } else {
+            if (is_last)
+                tell_lost(closed->tag, closed->name, error);
             next = &closed->next;
+            place++;
+        }
+        free(copy.path);
     }
-    return all;
+    return session->closed == NULL;
 }
 
 void drop_closed(struct session *session, uint64_t place)
@@ -235,7 +223,9 @@ void drop_closed(struct session *session, uint64_t place)
     if (found == NULL)
         return;
     *next = found->next;
-    free_closed(found);
+    free(found->name);
+    free(found->text.bytes);
+    free(found);
 }
 
 /* ---- Changed texts ---- */

@@ -91,6 +91,8 @@ void free_session(struct session *session)
     free(session->server);
     for (size_t tag = 0; tag < tags; tag++)
         free_document(&session->documents[tag]);
+    while (session->closed != NULL)
+        drop_closed(session, 0);
     free(session->documents);
     free(session->text.bytes);
     free_cut(&session->cut);
