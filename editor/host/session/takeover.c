@@ -74,6 +74,18 @@ static bool copy_files(struct session *session, struct session *heir)
     return true;
 }
 
+/* Hands on who waits until a file is closed. */
+static void hand_waiters(struct stay *stay, uint16_t tag, struct stay *next, uint16_t new)
+{
+    for (int at = 0; at < MOST_WAITERS; at++) {
+        struct waiter *waiter = &stay->waiters[at];
+        if (waiter->socket < 0 || waiter->tag != tag)
+            continue;
+        next->waiters[at] = (struct waiter){waiter->socket, new};
+        waiter->socket = -1;
+    }
+}
+
 /* Hands on what is known of the files, which takes no memory. What is not written is marked, once the new terminal knows it. */
 static void hand_documents(struct session *session, struct session *heir)
 {
@@ -90,6 +102,7 @@ static void hand_documents(struct session *session, struct session *heir)
         document->is_taken = is_unsaved;
         if (is_unsaved)
             mark_dirty(heir, (uint16_t)next);
+        hand_waiters(session->stay, (uint16_t)old, heir->stay, (uint16_t)next);
         next++;
     }
     heir->closed = session->closed;
