@@ -24,11 +24,12 @@
 #include "session/session.h"
 #include "sulgrevad.h"
 
-char *from_folder(const struct session *session, const char *path)
+char *from_folder(struct session *session, const char *path)
 {
-    bool is_seen = session->lost_folder == NULL || *path == '/';
+    bool is_seen = !session->is_away || *path == '/';
 
-    return is_seen ? formatted("%s", path) : formatted("%s/%s", session->lost_folder, path);
+    enter_folder(session);
+    return is_seen ? formatted("%s", path) : formatted("%s/%s", session->folder, path);
 }
 
 char *path_of(struct session *session, uint16_t tag, int *error)

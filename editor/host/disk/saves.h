@@ -21,7 +21,7 @@ int remember_content(struct document *document, const char *path, struct content
 
 /* A path that is seen from the folder in which the session began, in memory of its own; where that folder is gone, a whole path that leads
  * nowhere. NULL where memory is out. */
-char *from_folder(const struct session *session, const char *path);
+char *from_folder(struct session *session, const char *path);
 
 /* The path of a file as it is named now, in memory of its own. NULL where it has none, with the reason in `error`. */
 char *path_of(struct session *session, uint16_t tag, int *error);

@@ -194,16 +194,13 @@ void record_start(struct session *session)
 {
     struct stay *stay = session->stay;
     size_t tags = count_tags(session);
-    struct body body = {0};
-    char *folder = getcwd(NULL, 0);
+    struct body body = {.is_short = session->folder == NULL};
 
-    body.is_short = folder == NULL;
     add_number(&body, (uint64_t)RECORDS_FORM << 32 | sam_library_version());
-    add_words(&body, folder);
+    add_words(&body, session->folder);
     add_number(&body, session->mode_of_new_files);
     add_number(&body, (uint64_t)stay->longest_alone);
     add_raw(&body, stay->id, SAM_LINK_ID_BYTES);
-    free(folder);
     add_entry(session, ENTRY_START, &body);
     settle(session);
     for (size_t tag = 1; tag < tags; tag++)

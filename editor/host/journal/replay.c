@@ -57,20 +57,17 @@ static void begin_server(struct replay *replay, struct record *record)
         replay->fault = REPLAY_SHORT;
 }
 
-/* Enters the folder in which the session began. */
+/* Enters the folder in which the session began. A session that only ends needs none: its texts are saved elsewhere. */
 static void enter(struct replay *replay, char *folder)
 {
     struct session *session = replay->session;
 
-    if (folder == NULL || chdir(folder) != 0) {
+    session->folder = folder;
+    session->is_away = folder == NULL || chdir(folder) != 0;
+    if (session->is_away)
         say("%s: %s", folder == NULL ? "the folder of the session" : folder, cause(errno));
-        if (folder != NULL && session->stay->is_to_end) { /* its texts are saved elsewhere */
-            session->lost_folder = folder;
-            return;
-        }
+    if (session->is_away && (folder == NULL || !session->stay->is_to_end))
         replay->fault = REPLAY_NO_FOLDER;
-    }
-    free(folder);
 }
 
 static void begin_as_recorded(struct replay *replay, struct record *record)
@@ -86,7 +83,10 @@ static void begin_as_recorded(struct replay *replay, struct record *record)
     session->mode_of_new_files = start.mode_of_new_files;
     session->stay->longest_alone = start.longest_alone;
     umask(0666 & ~session->mode_of_new_files);
-    enter(replay, start.folder);
+    if (replay->is_again)
+        free(start.folder);
+    else
+        enter(replay, start.folder);
     if (replay->fault == REPLAY_OK)
         begin_server(replay, record);
 }

@@ -337,11 +337,11 @@ static struct waiter *free_waiter(struct stay *stay)
 }
 
 /* A path as seen from the folder of the session, where it leads into that. */
-static const char *seen_from_here(const char *path, const char *folder)
+static const char *seen_from_here(const struct session *session, const char *path)
 {
-    size_t len = folder == NULL ? 0 : strlen(folder);
+    size_t len = session->folder == NULL ? 0 : strlen(session->folder);
 
-    return len > 1 && strncmp(path, folder, len) == 0 && path[len] == '/' && path[len + 1] != '\0' ? path + len + 1 : path;
+    return len > 1 && strncmp(path, session->folder, len) == 0 && path[len] == '/' && path[len + 1] != '\0' ? path + len + 1 : path;
 }
 
 /* Has the terminal show a file: a path, a line, and whether who asks waits until it is closed. Where memory is out nothing has changed. */
@@ -350,15 +350,15 @@ static void answer_open(struct session *session, struct caller *caller, const ch
     struct stay *stay = session->stay;
     uint16_t tag = 0;
     bool is_short = stay->is_short;
-    char answer[ANSWER_ROOM], *folder = getcwd(NULL, 0);
+    char answer[ANSWER_ROOM];
 
-    path = seen_from_here(path, folder);
+    enter_folder(session);
+    path = seen_from_here(session, path);
     int error = is_short ? ENOMEM : is_folder(path) ? EISDIR : join_file(session, path, &tag);
     struct event shown = {.kind = SAM_NOTE_SHOWN, .tag = tag, .number = strtoull(line, NULL, 10)};
 
     if (error == 0 && !put_message(session, &shown, NULL))
         error = ENOMEM;
-    free(folder);
     snprintf(answer, sizeof answer, error == 0 ? "opened\n" : "refused %s\n", cause(error));
     answer_line(caller->socket, answer);
     struct waiter *waiter = error == 0 && waits ? free_waiter(stay) : NULL;

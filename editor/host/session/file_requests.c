@@ -157,6 +157,7 @@ bool do_message(struct session *session, const uint8_t *bytes, size_t len)
         return true; /* it is of a later version, or wrong */
     memcpy(path, bytes + note.path_at, note.path_len);
     path[note.path_len] = '\0';
+    enter_folder(session);
     switch (note.kind) {
     case SAM_NOTE_OPEN:
         return open_file(session, note.request, path);

@@ -3,6 +3,7 @@
 #include <stdlib.h>
 #include <string.h>
 #include <sys/stat.h>
+#include <unistd.h>
 
 #include "session/session.h"
 #include "disk/autosave.h"
@@ -65,12 +66,32 @@ bool tell_hidden(struct session *session)
     return true;
 }
 
+/* A copy that went with its folder nobody has taken away, so its text is saved again. */
+static void forget_lost(struct copy *copy)
+{
+    if (!is_own(copy))
+        forget_copy(copy);
+}
+
 static mode_t mode_of_new_files(void)
 {
     mode_t mask = umask(0);
 
     umask(mask);
     return 0666 & ~mask;
+}
+
+void enter_folder(struct session *session)
+{
+    struct stat status;
+    bool is_gone = stat(".", &status) != 0 || status.st_nlink == 0; /* 0: it is removed, and only open still */
+
+    if (!is_gone || session->folder == NULL || chdir(session->folder) != 0)
+        return;
+    for (size_t tag = 1, tags = count_tags(session); tag < tags; tag++)
+        forget_lost(&session->documents[tag].aside);
+    forget_lost(&session->cut.aside);
+    delay_save(&session->due);
 }
 
 bool make_session(struct session *session)
@@ -96,7 +117,7 @@ void free_session(struct session *session)
     free(session->documents);
     free(session->text.bytes);
     free_cut(&session->cut);
-    free(session->lost_folder);
+    free(session->folder);
     free(session);
 }
 
@@ -106,6 +127,7 @@ int open_session(struct session *session, char **paths, int count, const struct 
         say("out of memory");
         return STATUS_MEMORY;
     }
+    session->folder = getcwd(NULL, 0);
     int status = add_files(session, paths, count);
     if (status != STATUS_OK)
         return status;

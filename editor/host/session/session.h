@@ -29,7 +29,8 @@ struct session {
     bool is_cut_off;    /* what came last could not be taken, so a file may count as written that is not */
     struct due due;
     mode_t mode_of_new_files;
-    char *lost_folder;  /* the one in which it began, where that is gone and the session only ends; else NULL */
+    char *folder;       /* the one in which it began; NULL where that isn't known */
+    bool is_away;       /* that is gone, so a process that only ends the session isn't in it */
     bool is_made_again; /* this process has made it of its journal, and doesn't know what has happened to its copies before */
     struct stay *stay;  /* the link, and how the session is found again */
 };
@@ -51,6 +52,10 @@ int open_session(struct session *session, char **paths, int count, const struct 
 
 /* At the end of a session: saves what is not written, and says where it is. Returns the exit status. */
 int close_session(struct session *session, enum ending ending);
+
+/* Enters the folder in which the session began once more, where that was removed and is there again. The copies that went with it are saved
+ * again soon. */
+void enter_folder(struct session *session);
 
 /* How many tags the host has given; 0 where there is no host. */
 size_t count_tags(struct session *session);

@@ -43,24 +43,23 @@ enum {
 void write_about(const struct session *session)
 {
     const struct home *home = &session->stay->home;
-    char *folder = getcwd(NULL, 0), *line;
-    const char *first = NULL;
+    const char *first = NULL, *folder = session->folder == NULL ? "?" : session->folder;
+    char *line;
     int count = 0, file;
 
     (void)make_in_home(home, ABOUT, O_WRONLY | O_TRUNC, &file);
     for (size_t tag = 1; tag < ALL_TAGS && session->documents[tag].path != NULL && !is_hidden(session, tag); tag++, count++)
         first = count == 0 ? session->documents[tag].path : first;
     if (first == NULL)
-        line = formatted("no files, in %s", folder == NULL ? "?" : folder);
+        line = formatted("no files, in %s", folder);
     else if (count == 1)
-        line = formatted("%s, in %s", first, folder == NULL ? "?" : folder);
+        line = formatted("%s, in %s", first, folder);
     else
-        line = formatted("%s and %d more, in %s", first, count - 1, folder == NULL ? "?" : folder);
+        line = formatted("%s and %d more, in %s", first, count - 1, folder);
     if (file >= 0 && line != NULL)
         (void)!write(file, line, strlen(line)); /* it is for people to read */
     if (file >= 0)
         close(file);
-    free(folder);
     free(line);
 }
 

@@ -109,6 +109,9 @@ static void hand_documents(struct session *session, struct session *heir)
     for (struct closed *closed = heir->closed; closed != NULL; closed = closed->next)
         closed->tag = 0;
     session->closed = NULL;
+    heir->folder = session->folder;
+    session->folder = NULL;
+    heir->is_away = session->is_away;
     heir->due = session->due;
     heir->is_made_again = session->is_made_again;
     heir->mode_of_new_files = session->mode_of_new_files;
@@ -200,13 +203,13 @@ uint32_t take_over(struct session *session, struct caller *caller, const uint8_t
     struct session *heir = make_heir(session, caller, id, &code);
     if (heir == NULL)
         return code;
+    listen_for_messages(heir);
+    (void)save_cut(session, false);
     hand_documents(session, heir);
     heir->stay->attempt = attempt;
     heir->stay->is_named = true;
-    listen_for_messages(heir);
     name_anew(session, heir);
     hand_stay(session, heir, caller);
-    (void)save_cut(session, false);
     report_taken(heir);
     record_copies(heir);
     return SAM_OK;
