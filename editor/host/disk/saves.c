@@ -17,7 +17,6 @@
 #include "disk/paths.h"
 #include "journal/journal_records.h"
 #include "limits.h"
-#include "session/dirty_marks.h"
 #include "session/document.h"
 #include "session/messages.h"
 #include "session/persistent_session.h"
@@ -258,7 +257,7 @@ static void drop_left(struct session *session, uint16_t tag, const char *path)
         answer_write(session, event, "");
         return;
     }
-    mark_dirty(session, tag);
+    document->is_unmarked = true;
     event.kind = SAM_NOTE_NOT_SAVED;
     event.code = code_of(error);
     answer_write(session, event, "%s is not dropped: %s", path, error == IS_CHANGED ? "it has changed since" : cause(error));
@@ -287,11 +286,10 @@ static void write_text(struct session *session, uint16_t tag)
     } else {
         if (path != NULL && !has_it_anew(session, tag))
             attempt = put_text(session, tag, path);
-        session->documents[tag].is_unmarked = false;
-        if (attempt.error != 0) {
-            mark_dirty(session, tag);
+        session->documents[tag].is_unmarked = attempt.error != 0;
+        if (attempt.error != 0)
             answer_unwritten(session, tag, path, attempt.error);
-        } else
+        else
             answer_written(session, tag, path, attempt.theirs);
     }
     free(attempt.theirs);

@@ -129,7 +129,6 @@ void take_document(struct session *session, struct record *record)
     take_known(record, &document);
     free_document(&session->documents[tag]);
     session->documents[tag] = document;
-    session->has_unmarked |= document.is_unmarked;
 }
 
 /* ---- Entries ---- */

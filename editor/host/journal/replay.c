@@ -19,7 +19,6 @@
 #include "limits.h"
 #include "log.h"
 #include "net/handshake.h"
-#include "session/dirty_marks.h"
 #include "session/document.h"
 #include "session/messages.h"
 #include "session/persistent_session.h"
@@ -208,10 +207,9 @@ static void finish_server(struct replay *replay)
         return;
     }
     if (replay->is_damaged && sam_server_next_effect(session->server, &effect) == SAM_OK && effect.kind == SAM_EFFECT_WRITE)
-        mark_dirty(session, effect.tag);
+        session->documents[effect.tag].is_unmarked = true;
     for (size_t tag = 1, tags = count_tags(session); tag < tags; tag++) {
         forget_closed(session, (uint16_t)tag);
-        session->has_unmarked |= session->documents[tag].is_unmarked;
         know_again(&session->documents[tag].aside);
     }
     know_again(&session->cut.aside);

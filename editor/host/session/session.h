@@ -20,7 +20,6 @@ struct stay;
 struct session {
     sam_server *server;
     struct document *documents; /* ALL_TAGS of them */
-    bool has_unmarked;          /* some of them may be to be marked as dirty */
     struct text text;           /* room for one text (MOST_BYTES) */
     struct closed *closed;
     struct cut cut;

@@ -25,7 +25,6 @@
 #include "log.h"
 #include "net/handshake.h"
 #include "session/daemon.h"
-#include "session/dirty_marks.h"
 #include "session/document.h"
 #include "session/ending.h"
 #include "session/messages.h"
@@ -99,9 +98,7 @@ static void hand_documents(struct session *session, struct session *heir)
         *document = session->documents[old];
         session->documents[old] = (struct document){0};
         document->watch = (struct watch){0}; /* the new terminal is told, too */
-        document->is_taken = is_unsaved;
-        if (is_unsaved)
-            mark_dirty(heir, (uint16_t)next);
+        document->is_taken = document->is_unmarked = is_unsaved;
         hand_waiters(session->stay, (uint16_t)old, heir->stay, (uint16_t)next);
         next++;
     }

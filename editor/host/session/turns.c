@@ -12,11 +12,12 @@
 #include "disk/errors.h"
 #include "disk/saves.h"
 #include "journal/journal.h"
+#include "journal/journal_records.h"
 #include "log.h"
 #include "net/event_loop.h"
 #include "net/handshake.h"
 #include "net/stream_place.h"
-#include "session/dirty_marks.h"
+#include "session/document.h"
 #include "session/file_requests.h"
 #include "session/messages.h"
 #include "session/persistent_session.h"
@@ -66,6 +67,25 @@ void take_no_more(struct session *session)
 }
 
 /* ---- What it asks for ---- */
+
+/* Marks the files as dirty whose text is on no disk, though the host takes them for written, so that the terminal hears of it as of any other
+ * change. Returns whether there is memory for that. */
+static bool put_marks(struct session *session)
+{
+    bool are_put = true;
+
+    for (size_t tag = 1, tags = count_tags(session); tag < tags; tag++) {
+        struct document *document = &session->documents[tag];
+        if (!document->is_unmarked)
+            continue;
+        sam_status code = sam_server_mark_dirty(session->server, (uint16_t)tag);
+        document->is_unmarked = !is_taken(code) && code != SAM_NONE;
+        are_put &= !document->is_unmarked || code == SAM_MARK_NOT_ANNOUNCED; /* the terminal doesn't know the file yet */
+        if (!document->is_unmarked)
+            record_document(session, (uint16_t)tag);
+    }
+    return are_put;
+}
 
 static bool hear(struct session *session)
 {

@@ -21,7 +21,7 @@ from .support import IDLE, LATE, SAMHOST, expect_equal, made, names_in, text_of
 
 HEAD = 24  # bytes of a journal before its first record
 FRONT, BACK = 24, 4  # bytes of a record before its body, and behind it
-FORM_AND_SUM = (6, "6e77abb4cf952bef")  # of the records, and of the code that makes and reads them
+FORM_AND_SUM = (6, "4cf369473e854b25")  # of the records, and of the code that makes and reads them
 FORM_END = 1 + 8  # where form and version end in the body of the first record
 START, SERVER, BEGUN, KNOWN, CUT, WANTED, ANSWERED, HELD, FREED, ENDED = 1, *range(32, 41)  # kinds of entries of a record
 FILE, HELLO, UP, SAID, DONE, MARKED = ("file", "hello", "up", "said", "done", "marked")  # kinds of records of the server
