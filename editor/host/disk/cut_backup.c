@@ -19,18 +19,6 @@
 
 #define HASH_FACTOR UINT64_C(0x100000001b3)
 
-bool make_cut(struct cut *cut)
-{
-    cut->snarf.bytes = malloc(MOST_BYTES);
-    return cut->snarf.bytes != NULL;
-}
-
-void free_cut(struct cut *cut)
-{
-    free(cut->snarf.bytes);
-    free(cut->aside.path);
-}
-
 /* What the user has cut or copied last: what the host's snarf buffer has. */
 static const struct text *text_of(struct session *session)
 {

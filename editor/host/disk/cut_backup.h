@@ -19,10 +19,6 @@ struct cut {
     bool is_reported;  /* it was said that it can't be saved */
 };
 
-/* Makes room for what is cut. Returns whether there is memory for it. */
-bool make_cut(struct cut *cut);
-void free_cut(struct cut *cut);
-
 /* Saves what was cut last, unless it stands in a file. Says once that it can't be saved. Returns whether it is. */
 bool keep_cut(struct session *session);
 

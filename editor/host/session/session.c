@@ -98,10 +98,10 @@ bool make_session(struct session *session)
 {
     session->documents = calloc(ALL_TAGS, sizeof *session->documents);
     session->text.bytes = malloc(MOST_BYTES);
-    session->mode_of_new_files = mode_of_new_files();
-    bool has_room = session->documents != NULL && session->text.bytes != NULL && make_cut(&session->cut);
+    session->cut.snarf.bytes = malloc(MOST_BYTES);
     session->server = calloc(1, sizeof *session->server);
-    return has_room && session->server != NULL;
+    session->mode_of_new_files = mode_of_new_files();
+    return session->documents != NULL && session->text.bytes != NULL && session->cut.snarf.bytes != NULL && session->server != NULL;
 }
 
 void free_session(struct session *session)
@@ -116,7 +116,8 @@ void free_session(struct session *session)
         drop_closed(session, 0);
     free(session->documents);
     free(session->text.bytes);
-    free_cut(&session->cut);
+    free(session->cut.snarf.bytes);
+    free(session->cut.aside.path);
     free(session->folder);
     free(session);
 }
