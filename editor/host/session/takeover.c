@@ -41,18 +41,6 @@ static bool is_handed_on(struct session *session, size_t tag)
     return !is_hidden(session, tag) && has_file(session, tag);
 }
 
-/* Saves aside what is not written: the new server takes these files for written until they are marked as dirty, and wouldn't ask for
- * their texts if its terminal closed them before. Where that fails it is told once more. */
-static void save_before(struct session *session)
-{
-    enum place place;
-
-    for (size_t tag = 1, tags = count_tags(session); tag < tags; tag++) {
-        if (is_handed_on(session, tag))
-            (void)secure(session, (uint16_t)tag, &place);
-    }
-}
-
 /* Gives the new server the names and texts of the old one, in their order. Returns whether there is memory for them. */
 static bool copy_files(struct session *session, struct session *heir)
 {
@@ -196,7 +184,9 @@ uint32_t take_over(struct session *session, struct caller *caller, const uint8_t
         return SAM_LINK_NO_SESSION;
     if (stay->is_short || sam_server_next_effect(session->server, &effect) == SAM_OK) /* a file is to be written before, or to be saved */
         return code;
-    save_before(session);
+    /* The new server takes files for written until they are marked as dirty, and wouldn't ask for their texts if its terminal closed them
+     * before. Where one can't be saved it is told once more. */
+    (void)save_changed(session);
     struct session *heir = make_heir(session, caller, id, &code);
     if (heir == NULL)
         return code;
