@@ -159,7 +159,7 @@ static struct attempt put_text(struct session *session, uint16_t tag, const char
     char *end = NULL;
     int error = end_of_links(path, &end);
 
-    flush_line(session);
+    write_line(session); /* what follows may take long */
     if (error == 0) {
         owner = owner_at(session, end);
         request.path = end;

@@ -115,8 +115,7 @@ static void read_line(struct session *session)
     in->len = (size_t)count;
 }
 
-/* Sends what the server lets out over the newest connection, as much as goes without waiting. */
-static void write_line(struct session *session)
+void write_line(struct session *session)
 {
     struct stay *stay = session->stay;
     struct piece *out = &stay->out;
@@ -137,11 +136,6 @@ static void write_line(struct session *session)
         else
             out->sent += (size_t)count;
     }
-}
-
-void flush_line(struct session *session)
-{
-    write_line(session);
 }
 
 /* Says and sends what there is, once it is in the journal. */
@@ -245,13 +239,11 @@ static enum ending take_what_is_there(struct session *session, const sigset_t *m
     struct stay *stay = session->stay;
     enum ending ending = GOES_ON;
     uint64_t before, after = 0;
-    int tries = 0, pieces = 0;
+    int pieces = 0;
 
     do {
         before = after;
-        ending = take_turns(session);
-        if (ending == GOES_ON)
-            ending = take_again(session, &tries);
+        ending = take_all(session);
         write_line(session);
         carry(session, mask, 0);
         after = count_of(session, sam_server_received) + (stay->in.len - stay->in.sent);

@@ -53,8 +53,8 @@ struct stay {
     int64_t gone; /* since when a terminal is known to be gone of which memory is out for the last bytes; else 0 */
 };
 
-/* Before a file is written, which may take long: sends what is due. */
-void flush_line(struct session *session);
+/* Sends what the server lets out over the newest connection, as much as goes without waiting. */
+void write_line(struct session *session);
 
 /* Tells the terminal that another one, on this machine, has the session now, as far as its line takes that without waiting. */
 void say_the_last(struct session *session, const char *machine);

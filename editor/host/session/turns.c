@@ -187,28 +187,17 @@ enum ending take_turns(struct session *session)
     return sam_server_is_done(session->server, &is_over) == SAM_OK && is_over ? LEFT : GOES_ON;
 }
 
-/* What the terminal asked for last may not be done: a file may count as written that is not, so all are compared with the disk. */
-static void lose_the_last(struct session *session)
-{
-    say("what came last from the terminal is lost: %s", cause(ENOMEM));
-    session->is_cut_off = true;
-}
-
-enum ending take_again(struct session *session, int *tries)
-{
-    enum ending ending = GOES_ON;
-
-    while (ending == GOES_ON && session->stay->is_short && is_tried_again(ENOMEM, tries))
-        ending = take_turns(session);
-    if (ending == GOES_ON && session->stay->is_short)
-        lose_the_last(session);
-    return ending;
-}
-
 enum ending take_all(struct session *session)
 {
+    enum ending ending;
     int tries = 0;
-    enum ending ending = take_turns(session);
 
-    return ending == GOES_ON ? take_again(session, &tries) : ending;
+    do
+        ending = take_turns(session);
+    while (ending == GOES_ON && session->stay->is_short && is_tried_again(ENOMEM, &tries));
+    if (ending == GOES_ON && session->stay->is_short) {
+        say("what came last from the terminal is lost: %s", cause(ENOMEM));
+        session->is_cut_off = true; /* a file may count as written that is not, so all are compared with the disk */
+    }
+    return ending;
 }

@@ -11,10 +11,7 @@ struct session;
 /* Has the server take what was read, as far as there is memory, and does what it asks for. Returns why the session ends, if it does. */
 enum ending take_turns(struct session *session);
 
-/* The same for what memory was out for. What can't be taken in a while is lost. */
-enum ending take_again(struct session *session, int *tries);
-
-/* Both, for a session that ends then. */
+/* The same for a session that ends then, also where memory is out. What can't be taken in a while is lost. */
 enum ending take_all(struct session *session);
 
 /* Has the server take what was read, for the counts of its link, once nothing is done any more; notes whether memory is out for that. */
