@@ -512,7 +512,7 @@ bool is_left_alone(const struct home *home)
 
     bool is_read = file >= 0 && map_records(file, &all, &status) == 0 && read_head(&all, &random) == SAM_OK;
     bool is_known =
-        is_read && next_record(&all, random, &first, &record) && take_kind(&record) == ENTRY_START && take_start(&record, &start);
+        is_read && next_record(&all, random, &first, &record) && take_byte(&record) == ENTRY_START && take_start(&record, &start);
     free(start.folder);
     close_records(&all);
     if (file >= 0)

@@ -4,26 +4,7 @@
 
 #include "journal/record_body.h"
 
-enum { ROOM_FIRST = 256 };
-
-/* ---- Numbers ---- */
-
-static void put_number(uint8_t *into, uint64_t number, int bytes)
-{
-    for (int at = bytes - 1; at >= 0; at--, number >>= 8)
-        into[at] = (uint8_t)number;
-}
-
-static uint64_t number_at(const uint8_t *bytes, int count)
-{
-    uint64_t number = 0;
-
-    for (int at = 0; at < count; at++)
-        number = number << 8 | bytes[at];
-    return number;
-}
-
-/* ---- Bodies ---- */
+enum { ROOM_FIRST = 256, NUMBER = 8 }; /* bytes of a body at first, and of a number */
 
 bool has_room(struct body *body, size_t more)
 {
@@ -44,10 +25,11 @@ bool has_room(struct body *body, size_t more)
 
 void add_number(struct body *body, uint64_t number)
 {
-    if (has_room(body, 8)) {
-        put_number(body->bytes + body->len, number, 8);
-        body->len += 8;
-    }
+    uint8_t bytes[NUMBER];
+
+    for (int at = NUMBER - 1; at >= 0; at--, number >>= 8)
+        bytes[at] = (uint8_t)number;
+    add_raw(body, bytes, NUMBER);
 }
 
 void add_raw(struct body *body, const void *bytes, size_t len)
@@ -79,7 +61,7 @@ void add_entry_head(struct body *body, enum entry kind, size_t len)
     add_number(body, len);
 }
 
-uint8_t take_kind(struct record *record)
+uint8_t take_byte(struct record *record)
 {
     record->is_wrong |= record->len == 0;
     if (record->is_wrong)
@@ -90,13 +72,12 @@ uint8_t take_kind(struct record *record)
 
 uint64_t take_number(struct record *record)
 {
-    if (record->len < 8) {
-        record->is_wrong = true;
-        return 0;
-    }
-    record->body += 8;
-    record->len -= 8;
-    return number_at(record->body - 8, 8);
+    uint64_t number = 0;
+
+    record->is_wrong |= record->len < NUMBER;
+    for (int at = 0; at < NUMBER && record->len > 0; at++)
+        number = number << 8 | take_byte(record);
+    return record->is_wrong ? 0 : number;
 }
 
 const uint8_t *take_data(struct record *record, size_t *len)

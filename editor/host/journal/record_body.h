@@ -47,7 +47,7 @@ void add_data(struct body *body, const void *bytes, size_t len);
 void add_words(struct body *body, const char *words);
 void add_entry_head(struct body *body, enum entry kind, size_t len);
 uint64_t take_number(struct record *record);
-uint8_t take_kind(struct record *record);
+uint8_t take_byte(struct record *record);
 const uint8_t *take_data(struct record *record, size_t *len);
 char *take_words(struct record *record);
 

@@ -153,7 +153,7 @@ static void replay_entry(struct replay *replay, uint8_t kind, struct record *rec
 static void replay_record(struct replay *replay, struct record *record)
 {
     while (record->len > 0 && replay->fault == REPLAY_OK && replay->taken < replay->most) {
-        uint8_t kind = take_kind(record);
+        uint8_t kind = take_byte(record);
         struct record entry = {0};
         if (kind == ENTRY_START)
             begin_as_recorded(replay, record);
