@@ -291,20 +291,21 @@ bool has_journal(const struct home *home)
     return faccessat(home->folder, JOURNAL, F_OK, 0) == 0 || errno != ENOENT;
 }
 
-/* Has an open journal be readable. Of one that lacks its head there is nothing to read. */
-static int map_records(int file, struct text *all, struct stat *status)
+int map_records(int file, struct text *all)
 {
+    struct stat status;
+
     *all = (struct text){0};
-    if (fstat(file, status) != 0)
+    if (fstat(file, &status) != 0)
         return errno;
-    if (!S_ISREG(status->st_mode) || status->st_uid != geteuid())
+    if (!S_ISREG(status.st_mode) || status.st_uid != geteuid())
         return EPERM;
-    if (status->st_size < SAM_JOURNAL_HEAD_BYTES)
+    if (status.st_size < SAM_JOURNAL_HEAD_BYTES)
         return 0;
-    void *bytes = mmap(NULL, (size_t)status->st_size, PROT_READ, MAP_PRIVATE, file, 0);
+    void *bytes = mmap(NULL, (size_t)status.st_size, PROT_READ, MAP_PRIVATE, file, 0);
     if (bytes == MAP_FAILED)
         return errno;
-    *all = (struct text){bytes, (size_t)status->st_size};
+    *all = (struct text){bytes, (size_t)status.st_size};
     return 0;
 }
 
@@ -319,7 +320,6 @@ static sam_status read_head(const struct text *all, uint64_t *random)
 
 int open_journal(struct stay *stay, struct text *all, sam_status *head)
 {
-    struct stat status;
     int file = openat(stay->home.folder, JOURNAL, O_RDWR | O_APPEND | O_NOFOLLOW | O_CLOEXEC);
 
     *all = (struct text){0};
@@ -327,7 +327,7 @@ int open_journal(struct stay *stay, struct text *all, sam_status *head)
     if (file < 0)
         return errno;
     stay->journal = (struct journal){.file = file};
-    int error = map_records(file, all, &status);
+    int error = map_records(file, all);
     if (error == 0)
         *head = read_head(all, &stay->journal.random);
     return error;
@@ -383,13 +383,6 @@ int cut_journal(struct stay *stay, const struct text *all, size_t len)
     return error;
 }
 
-int read_own_journal(const struct journal *journal, struct text *all)
-{
-    struct stat status;
-
-    return map_records(journal->file, all, &status);
-}
-
 void close_records(struct text *all)
 {
     if (all->bytes != NULL)
@@ -420,12 +413,11 @@ static int copy_front(int from, int into, uint64_t len)
 /* Whether a file has just the records of a journal, whole. */
 static bool has_all_records(const struct journal *journal, int file)
 {
-    struct stat status;
     struct text all;
     uint64_t random, count;
     size_t end;
 
-    bool is_whole = map_records(file, &all, &status) == 0 && all.len == journal->len &&
+    bool is_whole = map_records(file, &all) == 0 && all.len == journal->len &&
                     sam_journal_read(all.bytes, all.len, &random, &count, &end) == SAM_OK && end == all.len && count == journal->count;
     close_records(&all);
     return is_whole;
@@ -510,7 +502,7 @@ bool is_left_alone(const struct home *home)
     uint64_t random;
     int file = openat(home->folder, JOURNAL, O_RDONLY | O_NOFOLLOW | O_CLOEXEC);
 
-    bool is_read = file >= 0 && map_records(file, &all, &status) == 0 && read_head(&all, &random) == SAM_OK;
+    bool is_read = file >= 0 && fstat(file, &status) == 0 && map_records(file, &all) == 0 && read_head(&all, &random) == SAM_OK;
     bool is_known =
         is_read && next_record(&all, random, &first, &record) && take_byte(&record) == ENTRY_START && take_start(&record, &start);
     free(start.folder);

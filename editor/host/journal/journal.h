@@ -60,13 +60,12 @@ void close_journal(struct journal *journal);
  * another in its place. */
 bool has_journal(const struct home *home);
 
-/* Opens the journal that is there, and hands out all that it has, which stays readable until close_records; and what the library says of
- * its head. */
-int open_journal(struct stay *stay, struct text *all, sam_status *head);
+/* Has all that an open journal has be readable, until close_records. Of one that lacks its head that is nothing. */
+int map_records(int file, struct text *all);
 void close_records(struct text *all);
 
-/* The same of the journal that the session writes. */
-int read_own_journal(const struct journal *journal, struct text *all);
+/* Opens the journal that is there, and hands out the same of it, and what the library says of its head. */
+int open_journal(struct stay *stay, struct text *all, sam_status *head);
 
 /* Whether a session whose samhost is gone has been alone for longer than it may be, as its journal says. */
 bool is_left_alone(const struct home *home);

@@ -233,7 +233,7 @@ bool begin_server_again(struct session *session)
     struct replay again = {.session = session, .most = SIZE_MAX, .is_again = true};
     struct text all = {0};
     sam_server *server = calloc(1, sizeof *server);
-    bool is_made = server != NULL && begin_journal_anew(session) && read_own_journal(&session->stay->journal, &all) == 0;
+    bool is_made = server != NULL && begin_journal_anew(session) && map_records(session->stay->journal.file, &all) == 0;
 
     if (is_made)
         (void)replay_all(&again, &all);
