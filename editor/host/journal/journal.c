@@ -83,8 +83,6 @@ void close_journal(struct journal *journal)
 {
     if (journal->file >= 0)
         close(journal->file);
-    if (journal->is_held && journal->old >= 0)
-        close(journal->old);
     free(journal->held.bytes);
     free(journal->turn.bytes);
     *journal = (struct journal){.file = -1, .lost = journal->lost, .damaged_at = journal->damaged_at, .in_turn = journal->in_turn};
@@ -100,8 +98,6 @@ void hold_journal(struct session *session, int error)
     struct journal *journal = &session->stay->journal;
     const struct home *home = &session->stay->home;
 
-    journal->old = journal->file;
-    journal->file = -1;
     journal->is_held = true;
     journal->pause = FIRST_PAUSE;
     journal->due = now() + FIRST_PAUSE;
@@ -151,12 +147,12 @@ static void put_record(struct session *session, const uint8_t *body, size_t len)
 
 bool writes_records(const struct journal *journal)
 {
-    return journal->file >= 0;
+    return journal->file >= 0 && !journal->is_held;
 }
 
 bool takes_records(const struct journal *journal)
 {
-    return writes_records(journal) || journal->is_held;
+    return journal->file >= 0 || journal->is_held;
 }
 
 /* Makes room in the next record. Returns whether there is memory for that: else the record lacks nothing yet. */
@@ -225,7 +221,7 @@ void sync_journal(struct session *session)
 {
     struct journal *journal = &session->stay->journal;
 
-    if (journal->file < 0)
+    if (!writes_records(journal))
         return;
     if (fdatasync(journal->file) != 0) {
         hold_journal(session, errno);
@@ -428,7 +424,7 @@ static bool has_all_records(const struct journal *journal, int file)
 static int write_anew(const struct journal *journal, int file)
 {
     struct iovec held = {journal->held.bytes, journal->held.len};
-    int error = copy_front(journal->old, file, journal->len - journal->held.len);
+    int error = copy_front(journal->file, file, journal->len - journal->held.len);
 
     if (error == 0)
         error = write_all(file, &held, 1);
@@ -444,7 +440,7 @@ bool begin_journal_anew(struct session *session)
     int file;
 
     if (!journal->is_held)
-        return journal->file >= 0;
+        return writes_records(journal);
     journal->pause = 2 * journal->pause < LONGEST_PAUSE ? 2 * journal->pause : LONGEST_PAUSE;
     journal->due = now() + journal->pause;
     if (make_in_home(home, NEW_JOURNAL, O_RDWR | O_TRUNC | O_APPEND, &file) != 0)
@@ -465,7 +461,7 @@ bool begin_journal_anew(struct session *session)
     journal->turn = anew.turn;
     journal->in_turn = anew.in_turn;
     put_record(session, NULL, 0); /* that may be missing after a power cut */
-    return journal->file >= 0;
+    return writes_records(journal);
 }
 
 int64_t mending_is_due_in(const struct session *session)

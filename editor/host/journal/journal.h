@@ -24,8 +24,7 @@ struct journal {
     struct body turn;    /* the entries of the next record */
     size_t in_turn;      /* how many records of the server are among them */
     bool is_held;        /* the file can't be written: records wait in memory until another one takes all of them */
-    int old;             /* while it is held, the file that has what stands before these; -1 where there is none */
-    struct body held;    /* these records; before them the head, where there is no old file */
+    struct body held;    /* these records, which stand behind those of the file; before them the head, where there is no file */
     int64_t due, pause;  /* when another file is tried, and in how many milliseconds once more if that can't be */
     int lost;            /* why it can't be written, which is still to be told; else 0 */
 };

@@ -237,9 +237,9 @@ void begin_fresh_journal(struct session *session)
     while (!is_settled(session) && is_tried_again(ENOMEM, &tries))
         settle(session);
     int error = !is_settled(session) ? ENOMEM : 0;
-    if (error == 0 && journal->file >= 0 && renameat(home->folder, NEW_JOURNAL, home->folder, JOURNAL) != 0)
+    if (error == 0 && writes_records(journal) && renameat(home->folder, NEW_JOURNAL, home->folder, JOURNAL) != 0)
         error = errno;
-    if (error != 0 && journal->file >= 0)
+    if (error != 0 && writes_records(journal))
         hold_journal(session, error);
     if (was_held && journal->is_held)
         journal->lost = lost; /* it was told, if it is 0 */
