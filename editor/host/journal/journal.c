@@ -121,14 +121,14 @@ static int write_record(struct journal *journal, const uint8_t *body, size_t len
 {
     sam_record_frame frame;
 
-    if (len > MOST_BODY || sam_journal_frame(journal->random, journal->count, journal->durable, body, len, &frame) != SAM_OK)
+    if (len > MOST_BODY || sam_journal_frame(journal->random, journal->end.number, journal->end.durable, body, len, &frame) != SAM_OK)
         return EFBIG;
     struct iovec parts[] = {{frame.front, sizeof frame.front}, {(uint8_t *)body, len}, {frame.back, sizeof frame.back}};
     int error = journal->is_held ? hold(&journal->held, parts, 3) : write_all(journal->file, parts, 3);
     if (error != 0)
         return error;
-    journal->count++;
-    journal->len += sizeof frame + len;
+    journal->end.number++;
+    journal->end.at += sizeof frame + len;
     return 0;
 }
 
@@ -227,7 +227,7 @@ void sync_journal(struct session *session)
         hold_journal(session, errno);
         return;
     }
-    journal->durable = journal->len;
+    journal->end.durable = journal->end.at;
     put_record(session, NULL, 0); /* that may be missing after a power cut */
 }
 
@@ -265,7 +265,7 @@ void make_journal(struct session *session, const char *name)
     uint8_t head[SAM_JOURNAL_HEAD_BYTES];
     struct iovec part = {head, sizeof head}, again = part;
 
-    *journal = (struct journal){.file = -1, .len = sizeof head};
+    *journal = (struct journal){.file = -1, .end = first_record()};
     if (getrandom(&journal->random, sizeof journal->random, 0) != sizeof journal->random ||
         sam_journal_head(journal->random, head) != SAM_OK) {
         end_journal(session, errno);
@@ -356,13 +356,6 @@ bool is_journal_damaged(const struct text *all, size_t end)
     return all->len - end > MOST_BEHIND || sam_journal_read(all->bytes, all->len, &random, &count, &end) == SAM_JOURNAL_DAMAGED;
 }
 
-void go_on_behind(struct journal *journal, const struct record_place *end)
-{
-    journal->count = end->number;
-    journal->len = end->at;
-    journal->durable = end->durable;
-}
-
 int cut_journal(struct stay *stay, const struct text *all, size_t len)
 {
     struct iovec torn = {all->bytes + len, all->len - len};
@@ -413,8 +406,8 @@ static bool has_all_records(const struct journal *journal, int file)
     uint64_t random, count;
     size_t end;
 
-    bool is_whole = map_records(file, &all) == 0 && all.len == journal->len &&
-                    sam_journal_read(all.bytes, all.len, &random, &count, &end) == SAM_OK && end == all.len && count == journal->count;
+    bool is_whole = map_records(file, &all) == 0 && all.len == journal->end.at &&
+                    sam_journal_read(all.bytes, all.len, &random, &count, &end) == SAM_OK && end == all.len && count == journal->end.number;
     close_records(&all);
     return is_whole;
 }
@@ -424,7 +417,7 @@ static bool has_all_records(const struct journal *journal, int file)
 static int write_anew(const struct journal *journal, int file)
 {
     struct iovec held = {journal->held.bytes, journal->held.len};
-    int error = copy_front(journal->file, file, journal->len - journal->held.len);
+    int error = copy_front(journal->file, file, journal->end.at - journal->held.len);
 
     if (error == 0)
         error = write_all(file, &held, 1);
@@ -457,9 +450,8 @@ bool begin_journal_anew(struct session *session)
     struct journal anew = *journal;
     journal->turn = (struct body){0};
     close_journal(journal);
-    *journal = (struct journal){.file = file, .random = anew.random, .count = anew.count, .len = anew.len, .durable = anew.len};
-    journal->turn = anew.turn;
-    journal->in_turn = anew.in_turn;
+    *journal = (struct journal){.file = file, .random = anew.random, .end = anew.end, .turn = anew.turn, .in_turn = anew.in_turn};
+    journal->end.durable = journal->end.at;
     put_record(session, NULL, 0); /* that may be missing after a power cut */
     return writes_records(journal);
 }

@@ -14,25 +14,23 @@ struct session;
 struct stay;
 struct text;
 
-struct journal {
-    int file;            /* -1 where there is none */
-    uint64_t random;     /* of the file */
-    uint64_t count;      /* its records */
-    uint64_t len;        /* its bytes */
-    uint64_t durable;    /* how many of these are on the disk */
-    uint64_t damaged_at; /* where its whole records end before what was on the disk */
-    struct body turn;    /* the entries of the next record */
-    size_t in_turn;      /* how many records of the server are among them */
-    bool is_held;        /* the file can't be written: records wait in memory until another one takes all of them */
-    struct body held;    /* these records, which stand behind those of the file; before them the head, where there is no file */
-    int64_t due, pause;  /* when another file is tried, and in how many milliseconds once more if that can't be */
-    int lost;            /* why it can't be written, which is still to be told; else 0 */
-};
-
 /* The place of a record in a journal, its number, and how much was on the disk when the one before it was made. */
 struct record_place {
     size_t at;
     uint64_t number, durable;
+};
+
+struct journal {
+    int file;                /* -1 where there is none */
+    uint64_t random;         /* of the file */
+    struct record_place end; /* where the next record is added; how much is on the disk now */
+    uint64_t damaged_at;     /* where its whole records end before what was on the disk */
+    struct body turn;        /* the entries of the next record */
+    size_t in_turn;          /* how many records of the server are among them */
+    bool is_held;            /* the file can't be written: records wait in memory until another one takes all of them */
+    struct body held;        /* these records, which stand behind those of the file; before them the head, where there is no file */
+    int64_t due, pause;      /* when another file is tried, and in how many milliseconds once more if that can't be */
+    int lost;                /* why it can't be written, which is still to be told; else 0 */
 };
 
 /* Makes a journal of this name in the folder of a session, in the place of one that is there. Where that can't be it is held. */
@@ -71,9 +69,6 @@ bool is_left_alone(const struct home *home);
 
 /* Cuts the journal to its whole records, and has the cut be on the disk. What is cut off stays beside it. */
 int cut_journal(struct stay *stay, const struct text *all, size_t len);
-
-/* Has the next record be added at this place, where the whole ones end. */
-void go_on_behind(struct journal *journal, const struct record_place *end);
 
 /* Whether records are written; and whether they are, or are held. */
 bool writes_records(const struct journal *journal);

@@ -185,7 +185,7 @@ static struct record_place replay_all(struct replay *replay, const struct text *
 static enum replay_fault cut_to_whole_records(struct replay *replay, const struct text *all)
 {
     struct stay *stay = replay->session->stay;
-    size_t end = stay->journal.len;
+    size_t end = stay->journal.end.at;
 
     if (!replay->has_begun && all->len == first_record().at)
         return REPLAY_NOTHING;
@@ -270,10 +270,8 @@ enum replay_fault begin_again(struct session *session)
     replay.fault = error != 0 ? REPLAY_UNREADABLE : fault_of_head(head);
     if (replay.fault == REPLAY_OK && !make_session(session))
         replay.fault = REPLAY_SHORT;
-    if (replay.fault == REPLAY_OK) {
-        struct record_place end = replay_all(&replay, &all);
-        go_on_behind(&stay->journal, &end);
-    }
+    if (replay.fault == REPLAY_OK)
+        stay->journal.end = replay_all(&replay, &all);
     if (replay.fault == REPLAY_DIFFERS && replay.taken > 0)
         make_known(&replay, &all);
     if (replay.fault == REPLAY_OK)
