@@ -112,14 +112,6 @@ static int sync_written(int file, int error)
     return error == 0 && fsync(file) != 0 ? errno : error;
 }
 
-/* Closes a file that was written. What went wrong before counts more. */
-static int close_written(int file, int error)
-{
-    int closed = close(file) == 0 ? 0 : errno;
-
-    return error != 0 ? error : closed;
-}
-
 /* Opens the folder of a path. -1 where it can't be opened. */
 static int open_folder(const char *path)
 {
@@ -530,8 +522,8 @@ static int put_in_place(struct request *request, const struct stat *seen)
         error = read_all(file, MOST_BYTES, &old);
     if (error == 0)
         error = may_replace(request, content_of(&old)) ? write_over(request, file, &old) : IS_CHANGED;
-    if (file >= 0)
-        error = close_written(file, error);
+    if (file >= 0 && close(file) != 0 && error == 0)
+        error = errno;
     free(old.bytes);
     return error;
 }
