@@ -178,6 +178,26 @@ def check_copy_whose_folder_is_gone(folder):
         expect_equal(text_of(copy), "one\ntwo\nthree\n" if is_typed else "one\ntwo\n", "the copy")
 
 
+def check_copy_whose_folder_comes_back(folder):
+    """A copy that went with the folder of a session nobody has taken away: the text is saved again once that folder is there, and at the
+    end."""
+    for seconds in (0, IDLE + LATE):
+        place, state = folder / f"after{seconds}", folder / f"state{seconds}"
+        place.mkdir()
+        made(place, a="one\n")
+        with Session(place, "a.txt", environment={"XDG_STATE_HOME": str(state), "TMPDIR": str(state)}) as session:
+            session.type("two\n")
+            copy = place / "a.txt.sam-saved"
+            wait_until(copy.exists, "the text is not saved", IDLE + LATE)
+            session.let_pass(0.2)
+            shutil.rmtree(place)
+            place.mkdir()
+            session.let_pass(seconds)
+            expect_equal(session.end(), 0, "the status")
+            expect_line(session.lines, "a.txt was not written; its text is in a.txt.sam-saved")
+        expect_equal(text_of(copy), "one\ntwo\n", f"after {seconds} s the copy")
+
+
 def check_offered(folder):
     """With --left a terminal is offered the texts that earlier sessions saved, each as a file named by the tag of its file,
     whether it is newer, and when it was saved. Written empty it goes, unless it has changed. One that its file has goes at once."""

@@ -6,7 +6,7 @@ import signal
 import subprocess
 import time
 
-from checks import MNT_DETACH, Skipped, expect, libc, wait_until
+from checks import GIVEN_UP, MNT_DETACH, Skipped, expect, libc, wait_until
 from link_model import What
 
 from .journals import ENDED, kill, kinds_of, records_of, typed
@@ -226,6 +226,34 @@ def check_journal_stays_where_late_text_finds_no_room(folder):
                 expect_equal(session.run("--end", session.name).returncode, 0, "the status of --end")
             expect_gone(place, session)
         expect_equal(text_of(place / "a.txt.sam-saved"), "late\none\ntwo\n", f"{is_ended_late}: the copy")
+
+
+def check_journal_keeps_each_text_of_closed_files(folder):
+    """A text of a closed file that is lost at the end is not lost for good where that of a file is saved which is closed later."""
+    made(folder, a="one\n", b="other\n")
+    words, full = on_full_disk(folder)
+    with Staying(folder, "a.txt", "b.txt", prefix=("env", *map("=".join, words.items()))) as session:
+        full.write_text("words that the journal never has")
+        session.type("two\n")
+        session.type("more\n", 2)
+        session.terminal.close(1)
+        session.settle()
+        pid, end = pid_of(folder, session.name), [SAMHOST, "--end", session.name]
+        with subprocess.Popen(end, cwd=folder, env=session.environment, stderr=subprocess.DEVNULL) as ending:
+            session.carry(lambda: session.of("ENDED"), "it doesn't say that it ends")
+            session.terminal.close(2)
+            session.carry(lambda: session.of("ASIDE", tag=2), "it isn't told that the second text can't be saved")
+            full.unlink()
+            session.put_note("COMPLETE", request=1, path=b"a")
+            session.carry(lambda: session.of("NAMES"), "it isn't answered")
+            session.link.acknowledge()
+            session.give()
+            wait_until(lambda: not is_running(pid), "it doesn't go")
+            ending.wait(GIVEN_UP)
+        session.run("--end", session.name)
+        expect_gone(folder, session)
+    found = [text_of(folder / f"{name}.txt.sam-saved") for name in "ab"]
+    expect_equal(found, ["one\ntwo\n", "other\nmore\n"], "the copies")
 
 
 def check_journal_stays_at_a_signal_without_room(folder):

@@ -615,6 +615,36 @@ def check_stays_where_its_folder_comes_later(folder):
         expect_equal(ended.returncode, 0, f"after {ended.stderr!r} the status of --end")
 
 
+def check_stays_in_a_folder_that_comes_back(folder):
+    """Where the folder in which a session began is removed and made anew, the session goes on there: it writes its files, saves their texts
+    aside, and keeps its journal, also where another terminal takes it over meanwhile."""
+    made(folder)
+    place = folder / "place"
+    place.mkdir()
+    (place / "a.txt").write_text("one\n")
+    path, copy = place / "a.txt", place / "a.txt.sam-saved"
+    with Staying(folder, "a.txt", prefix=("sh", "-c", 'cd place && exec "$@"', "sh")) as session:
+        session.type("two\n")
+        wait_until(copy.exists, "the text is not saved", IDLE + LATE)
+        shutil.rmtree(place)
+        session.write()
+        expect(session.said()[-1].startswith("not written: a.txt: No such file or directory; its text is in "), f"it says {session.said()}")
+        place.mkdir()
+        session.write()
+        expect_equal(text_of(path), "one\ntwo\n", "the file")
+        session.type("three\n")
+        wait_until(lambda: text_of(copy) == "one\ntwo\nthree\n", "the text is not saved beside the file", IDLE + LATE)
+        shutil.rmtree(place)
+        with Staying(folder, takes=session.name) as new:
+            expect_equal(new.of("NO_JOURNAL"), [], "what it tells of the journal")
+            place.mkdir()
+            kill(folder, new)
+            new.type("four\n")
+            new.write()
+            expect_equal(text_of(path), "one\ntwo\nthree\nfour\n", "the file after a kill")
+            new.leave()
+
+
 def check_stays_for_the_last_note(folder):
     """The last note waits for a terminal whose line breaks just then."""
     with typed(folder) as session:

@@ -4,9 +4,10 @@ import os
 import signal
 
 import sulgrevad
-from checks import expect, wait_until
+from checks import GIVEN_UP, expect, wait_until
 from link_model import What
 
+from .file_requests import waiting
 from .journal_faults import AGAIN
 from .journals import SYNCED, kill, killed, records_of, typed
 from .line import Staying, home_of, is_running, pid_of, state_of, with_calls
@@ -292,6 +293,24 @@ def check_taken_where_the_folder_stays(folder):
             expect_equal(names_in(state_of(folder)), [new.name], "the folders of sessions after another has begun")
             expect_equal(new.run("--end", new.name).returncode, 0, "the status of --end")
             expect_equal(names_in(state_of(folder)), [], "the folders of sessions at the end")
+
+
+def check_taken_while_somebody_waits(folder):
+    """Who waits until a file is closed goes on to wait where another terminal takes the session over, in which the file has another tag."""
+    made(folder, a="one\n", b="other\n")
+    with Staying(folder, "a.txt", "b.txt") as old:
+        old.terminal.close(1)
+        old.settle()
+        with waiting(old, "b.txt") as process:
+            old.carry(lambda: old.of("SHOWN", tag=2), "it isn't to be shown")
+            with Staying(folder, takes=old.name) as new:
+                new.type("more\n")
+                new.write()
+                expect(process.poll() is None, "it doesn't wait any more")
+                new.terminal.close(1)
+                new.settle()
+                expect_equal(process.wait(GIVEN_UP), 0, "the status of who waits")
+                new.leave()
 
 
 def check_taken_keeps_what_was_cut(folder):
