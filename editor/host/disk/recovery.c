@@ -37,9 +37,10 @@ enum {
 /* What is looked for, and what came of it. */
 struct search {
     struct session *session;
-    size_t tags;          /* of the user's files */
+    size_t first, tags;   /* of the user's files: that of the first one, and the one behind the last */
     struct marks folders; /* those that were looked through */
     bool offers;          /* the texts become files of the session */
+    bool is_late;         /* it is of a file that has joined a session which had begun */
     int offered;          /* how many */
     int foreign;          /* copies that are another user's */
     char *first_foreign;  /* what is said of the first of them */
@@ -201,13 +202,14 @@ static void report_saved(struct search *search, size_t tag, const char *place, c
     const struct document *document = &search->session->documents[tag];
     struct left left = {0};
 
-    if (look_at(search, place, entry, document->path, &left)) {
+    if (look_at(search, place, entry, document->path, &left) && owner_at(search->session, left.path) == NULL) {
         bool is_written = left.is_read && is_same(content_of(&left.text), content_at(document->path));
         if (!is_written || left.status.st_uid != geteuid() || unlink(left.path) != 0) {
             struct event event = earlier_text(left.is_newer ? SAM_NOTE_NEWER : SAM_NOTE_OLDER, tag, document->path, &left);
-            const char *age = left.is_newer ? "newer" : "older";
+            if (search->is_late) /* a message of its own says to a terminal that the text is offered */
+                event = (struct event){.kind = SAM_NOTE_SAID};
             tell(&event, "%s has a text that was not written: it is in %s, of %s, %s than the file", document->path, left.path, left.when,
-                 age);
+                 left.is_newer ? "newer" : "older");
             if (search->offers)
                 offer(search, tag, &left);
         }
@@ -231,7 +233,7 @@ static void report_old(struct search *search, size_t tag, const char *place, con
 /* Reports a copy where it is one of a file of the session, as it is named or as its symbolic links name it. */
 static void report_copy(struct search *search, const struct folder *folder, const char *entry, size_t len, bool is_old)
 {
-    for (size_t tag = 1; tag < search->tags; tag++) {
+    for (size_t tag = search->first; tag < search->tags; tag++) {
         const struct document *document = &search->session->documents[tag];
         char *place = NULL;
         if (!is_copy_of(search, document->path, folder, entry, len, &place) &&
@@ -295,7 +297,7 @@ static void report_entry(struct search *search, const struct folder *folder, con
 
     if (is_saved || is_old)
         report_copy(search, folder, entry, len, is_old);
-    if ((!is_temporary && !is_saved) || is_foreign(search, folder, entry))
+    if (search->is_late || (!is_temporary && !is_saved) || is_foreign(search, folder, entry))
         return;
     if (is_temporary)
         say("%s%s is left of a write that was broken off", folder->path, entry);
@@ -329,27 +331,37 @@ static void report_folder(struct search *search, char *path, bool is_own)
 }
 
 /* The folders for copies come first: where one of the files lies there, another one's copies may lie there, too. */
-void report_left(struct session *session, bool offers)
+static void report_folders(struct search *search)
 {
-    struct search search = {.session = session, .tags = count_tags(session), .offers = offers};
-
     for (int which = 0; which < OWN_FOLDERS; which++) {
         char *own;
         int error = own_folder(which, false, &own);
         if (error == 0 || error == ENOMEM)
-            report_folder(&search, own, true);
+            report_folder(search, own, true);
     }
-    for (size_t tag = 1; tag < search.tags; tag++) {
-        report_folder(&search, folder_of(session->documents[tag].path), false);
-        report_folder(&search, folder_of(session->documents[tag].known->path), false);
+    for (size_t tag = search->first; tag < search->tags; tag++) {
+        report_folder(search, folder_of(search->session->documents[tag].path), false);
+        report_folder(search, folder_of(search->session->documents[tag].known->path), false);
     }
-    report_folder(&search, formatted(""), false);
-    if (search.foreign > 1)
-        say("%s, and is not offered; nor are %d more", search.first_foreign == NULL ? "a copy" : search.first_foreign, search.foreign - 1);
-    else if (search.foreign == 1)
-        say("%s, and is not offered", search.first_foreign == NULL ? "a copy" : search.first_foreign);
-    free(search.first_foreign);
-    if (search.is_short)
+    if (!search->is_late)
+        report_folder(search, formatted(""), false);
+    if (search->foreign > 1)
+        say("%s, and is not offered; nor are %d more", search->first_foreign == NULL ? "a copy" : search->first_foreign,
+            search->foreign - 1);
+    else if (search->foreign == 1)
+        say("%s, and is not offered", search->first_foreign == NULL ? "a copy" : search->first_foreign);
+    free(search->first_foreign);
+    if (search->is_short)
         say("out of memory: not all that is left of earlier sessions was looked for");
-    free(search.folders.items);
+    free(search->folders.items);
+}
+
+void report_left(struct session *session, bool offers)
+{
+    report_folders(&(struct search){.session = session, .first = 1, .tags = count_tags(session), .offers = offers});
+}
+
+void report_left_of(struct session *session, uint16_t tag)
+{
+    report_folders(&(struct search){.session = session, .first = tag, .tags = (size_t)tag + 1, .is_late = true});
 }

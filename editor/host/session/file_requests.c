@@ -14,6 +14,7 @@
 #include "disk/file_reader.h"
 #include "disk/file_watcher.h"
 #include "disk/paths.h"
+#include "disk/recovery.h"
 #include "disk/saves.h"
 #include "journal/journal_records.h"
 #include "limits.h"
@@ -55,8 +56,10 @@ static int add_joined(struct session *session, const char *path, uint16_t *tag)
     if (error == 0)
         error = add_text(session, path, &text, tag);
     free(text.bytes);
-    if (error == 0)
+    if (error == 0) {
         record_document(session, *tag);
+        report_left_of(session, *tag);
+    }
     return error;
 }
 

@@ -1,5 +1,6 @@
 """Files that join a session that stays, and the names of those that might."""
 import os
+import re
 import subprocess
 
 import sulgrevad
@@ -7,7 +8,7 @@ from checks import GIVEN_UP, expect, wait_until
 
 from .journals import kill, typed
 from .line import Staying, pid_of, with_calls
-from .support import SAMHOST, expect_equal, made, text_of
+from .support import IDLE, LATE, SAMHOST, expect_equal, made, names_of, text_of
 
 
 def asked(session, kind, request, **fields):
@@ -170,6 +171,33 @@ def check_join_of_files(folder):
             session.write(tag)
             expect_equal(text_of(folder / name), text + "more\n", "the file")
             expect_equal(joined(session, name, 10), tag, "the tag at another time")
+        session.leave()
+
+
+def check_join_of_a_file_that_was_left(folder):
+    """Of a file that joins it is told which text of it was not written: in an earlier session, or before it was closed in this one. A copy
+    that is another file's in this session is none."""
+    made(folder, a="one\n", b="other\n")
+    (folder / "b.txt.sam-saved").write_text("newer\n")
+    age = r", of \d{4}-\d\d-\d\d \d\d:\d\d:\d\d, newer than the file"
+    with Staying(folder, "a.txt", options=("--left",)) as session:
+        tag = joined(session, "b.txt", 1)
+        wanted = "b.txt has a text that was not written: it is in b.txt.sam-saved" + age
+        expect(len(session.said()) == 1 and re.fullmatch(wanted, session.said()[0]), f"it says {session.said()}")
+        opened(session, tag)
+        expect_equal(names_of(session), ["a.txt", "b.txt"], "the files")
+        expect_equal(text_of(folder / "b.txt.sam-saved"), "newer\n", "the copy")
+        session.type("two\n")
+        wait_until((folder / "a.txt.sam-saved").exists, "the text is not saved", IDLE + LATE)
+        session.rename("d.txt")
+        joined(session, "a.txt", 2)
+        expect_equal(len(session.said()), 1, f"how much it says, in {session.said()}: it")
+        session.type("more\n", tag)
+        session.terminal.close(tag)
+        session.settle()
+        joined(session, "b.txt", 3)
+        told = {said.partition(" it is in ")[2].partition(",")[0] for said in session.said() if said.startswith("b.txt has a text")}
+        expect_equal(told, {"b.txt.sam-saved", "b.txt.sam-saved.2"}, "the copies of which it tells")
         session.leave()
 
 
