@@ -247,31 +247,21 @@ static void report_copy(struct search *search, const struct folder *folder, cons
     }
 }
 
-static void report_unnamed(struct search *search, const struct folder *folder, const char *entry)
-{
-    struct left left = {.path = formatted("%s%s", folder->path, entry)};
-
-    search->is_short |= left.path == NULL;
-    if (left.path != NULL && lstat(left.path, &left.status) == 0) {
-        struct event event = earlier_text(SAM_NOTE_UNNAMED, 0, NULL, &left);
-        tell(&event, "a file without a name was not written: its text is in %s", left.path);
-    }
-    free_left(&left);
-}
-
 /* Reports a text that is of no file: one without a name, or what was cut last. */
 static void report_other(struct search *search, const struct folder *folder, const char *entry, size_t len)
 {
     struct left left = {0};
     size_t front = folder->is_own && strcspn(entry, "-") == 16 ? 17 : 0; /* a number of the path, and a dash */
     bool is_cut = len - front == strlen(CUT) && strncmp(entry + front, CUT, strlen(CUT)) == 0;
+    bool is_unnamed = strncmp(entry + front, UNNAMED, strlen(UNNAMED)) == 0;
 
-    if (strncmp(entry + front, UNNAMED, strlen(UNNAMED)) == 0)
-        report_unnamed(search, folder, entry);
-    else if (is_cut && look_at(search, folder->path, entry, NULL, &left)) {
-        struct event event = earlier_text(SAM_NOTE_CUT, 0, NULL, &left);
-        tell(&event, "what was cut last in an earlier session is in %s, of %s", left.path, left.when);
-        if (search->offers)
+    if ((is_cut || is_unnamed) && look_at(search, folder->path, entry, NULL, &left)) {
+        struct event event = earlier_text(is_cut ? SAM_NOTE_CUT : SAM_NOTE_UNNAMED, 0, NULL, &left);
+        if (is_cut)
+            tell(&event, "what was cut last in an earlier session is in %s, of %s", left.path, left.when);
+        else
+            tell(&event, "a file without a name was not written: its text is in %s", left.path);
+        if (is_cut && search->offers)
             offer(search, 0, &left);
     }
     free_left(&left);
