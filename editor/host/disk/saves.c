@@ -82,31 +82,19 @@ int remember_content(struct document *document, const char *path, struct content
     return 0;
 }
 
-/* Notes what another program has put into a file. */
-static void remember_theirs(struct document *document, const char *path, struct content content)
+/* Notes what a request expects in its file: what the host has saved there for a document (`owner`), else what this one has read there or
+ * written last. */
+static void expect_known(struct request *request, const struct document *document, const struct document *owner)
 {
-    if (remember_content(document, path, content) == 0)
-        find_known(document, path)->is_theirs = true;
-}
+    const struct known *known = find_known(document, request->path);
 
-/* What a document expects in a file: what the host has saved there for a document (`owner`), else what it has read there or written
- * last; and whether that is another program's. */
-static struct content expected_at(const struct document *document, const struct document *owner, const char *path, bool *is_theirs)
-{
-    const struct known *known = find_known(document, path);
-
-    *is_theirs = owner == NULL && known != NULL && known->is_theirs;
+    if (known != NULL) {
+        request->known = known->content;
+        request->disk = known->content.kind == NOT_THERE ? 0 : known->disk;
+        request->is_theirs = owner == NULL && known->is_theirs;
+    }
     if (owner != NULL)
-        return owner->aside.content;
-    return known == NULL ? (struct content){.kind = NOT_THERE} : known->content;
-}
-
-/* The device of the folder in which a document expects a file; 0 where it expects none, or the device isn't known. */
-static dev_t known_disk(const struct document *document, const char *path)
-{
-    const struct known *known = find_known(document, path);
-
-    return known == NULL || known->content.kind == NOT_THERE ? 0 : known->disk;
+        request->known = owner->aside.content;
 }
 
 /* ---- Writing ---- */
@@ -121,26 +109,12 @@ static void remember_put(struct document *document, const struct request *reques
         (void)remember_content(document, request->path, (struct content){.kind = NOT_SURE});
     else if (error == IS_CHANGED && is_same(request->found, request->known)) /* another file with the same text */
         (void)remember_content(document, request->path, request->found);
-    else if (error == IS_CHANGED)
-        remember_theirs(document, request->path, request->found);
+    else if (error == IS_CHANGED && remember_content(document, request->path, request->found) == 0)
+        find_known(document, request->path)->is_theirs = true;
     if (error == 0 && is_copy) /* the copy is the file by now */
         forget_copy(&document->aside);
     else if (error == 0)
         drop_copy(&document->aside);
-}
-
-/* What came of an attempt to write a file. */
-struct attempt {
-    int error;
-    char *theirs; /* where what another program had written there is now; NULL where nothing was */
-};
-
-/* Has the disk broken a file while it was written in place: tells where what it was is now. */
-static void tell_broken(uint16_t tag, const char *path, const char *old)
-{
-    if (old != NULL)
-        tell(&(struct event){.kind = SAM_NOTE_ASIDE, .code = SAM_NOTE_BROKEN, .tag = tag, .path = path, .copy = old},
-             "%s is broken; what it was is in %s", path, old);
 }
 
 /* Why a file was not written, which may have changed since it was read: in words of its own where it isn't there now, or wasn't then. */
@@ -151,8 +125,8 @@ static int in_its_own_words(int error, const struct request *request)
     return request->known.kind == NOT_THERE ? IS_THERE : request->found.kind == NOT_THERE ? IS_GONE : IS_CHANGED;
 }
 
-/* Puts the text of a file where its path leads to. */
-static struct attempt put_text(struct session *session, uint16_t tag, const char *path)
+/* Puts the text of a file where its path leads to. Hands out where what another program had written there is now; NULL where nothing was. */
+static int put_text(struct session *session, uint16_t tag, const char *path, char **theirs)
 {
     struct document *document = &session->documents[tag], *owner = NULL;
     struct request request = {.text = &session->text, .mode = session->mode_of_new_files};
@@ -163,8 +137,7 @@ static struct attempt put_text(struct session *session, uint16_t tag, const char
     if (error == 0) {
         owner = owner_at(session, end);
         request.path = end;
-        request.known = expected_at(document, owner, end, &request.is_theirs);
-        request.disk = known_disk(document, end);
+        expect_known(&request, document, owner);
     }
     if (owner != NULL && owner != document)
         error = move_aside(session, owner);
@@ -174,10 +147,13 @@ static struct attempt put_text(struct session *session, uint16_t tag, const char
         error = put_file(&request);
         remember_put(document, &request, error, owner == document);
     }
-    tell_broken(tag, path, request.old);
+    if (request.old != NULL)
+        tell(&(struct event){.kind = SAM_NOTE_ASIDE, .code = SAM_NOTE_BROKEN, .tag = tag, .path = path, .copy = request.old},
+             "%s is broken; what it was is in %s", path, request.old);
     free(request.old);
     free(end);
-    return (struct attempt){in_its_own_words(error, &request), request.theirs};
+    *theirs = request.theirs;
+    return in_its_own_words(error, &request);
 }
 
 /* Saves a text that was not written, and answers why it was not, and where it is. */
@@ -243,13 +219,13 @@ static bool is_dropped(struct session *session, uint16_t tag)
 static void drop_left(struct session *session, uint16_t tag, const char *path)
 {
     struct document *document = &session->documents[tag];
+    const struct known *known = find_known(document, path);
     struct content found = content_at(path);
     struct event event = {.kind = SAM_NOTE_SAVED, .tag = tag, .path = path};
-    bool is_theirs;
     int error = 0;
 
     drop_copy(&document->aside);
-    if (found.kind != NOT_THERE && !is_same(found, expected_at(document, NULL, path, &is_theirs)))
+    if (found.kind != NOT_THERE && (known == NULL || !is_same(found, known->content)))
         error = IS_CHANGED;
     else if (found.kind != NOT_THERE && unlink(path) != 0)
         error = errno;
@@ -278,21 +254,21 @@ static bool has_it_anew(struct session *session, uint16_t tag)
 /* Writes a file, and answers. */
 static void write_text(struct session *session, uint16_t tag)
 {
-    struct attempt attempt = {0};
-    char *path = path_of(session, tag, &attempt.error);
+    int error;
+    char *theirs = NULL, *path = path_of(session, tag, &error);
 
     if (path != NULL && is_dropped(session, tag)) {
         drop_left(session, tag, path);
     } else {
         if (path != NULL && !has_it_anew(session, tag))
-            attempt = put_text(session, tag, path);
-        session->documents[tag].is_unmarked = attempt.error != 0;
-        if (attempt.error != 0)
-            answer_unwritten(session, tag, path, attempt.error);
+            error = put_text(session, tag, path, &theirs);
+        session->documents[tag].is_unmarked = error != 0;
+        if (error != 0)
+            answer_unwritten(session, tag, path, error);
         else
-            answer_written(session, tag, path, attempt.theirs);
+            answer_written(session, tag, path, theirs);
     }
-    free(attempt.theirs);
+    free(theirs);
     free(path);
 }
 
