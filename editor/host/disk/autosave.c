@@ -352,7 +352,7 @@ static int save_for_good(struct session *session, uint16_t tag, const char *name
     return error;
 }
 
-bool add_closed(struct session *session, uint16_t tag, const char *name, const struct text *text)
+struct closed *add_closed(struct session *session, uint16_t tag, const char *name, const struct text *text)
 {
     struct closed *closed = malloc(sizeof *closed), **last = &session->closed;
     uint8_t *bytes = malloc(text->len + 1);
@@ -362,26 +362,24 @@ bool add_closed(struct session *session, uint16_t tag, const char *name, const s
         free(closed);
         free(bytes);
         free(own);
-        return false;
+        return NULL;
     }
     memcpy(bytes, text->bytes, text->len);
     *closed = (struct closed){.tag = tag, .name = own, .text = {bytes, text->len}};
     while (*last != NULL)
         last = &(*last)->next;
     *last = closed;
-    return true;
+    return closed;
 }
 
 /* Holds a text that is tried again later, and at the end. Returns whether there is memory for it. */
 static bool hold_closed(struct session *session, uint16_t tag, const char *name)
 {
-    if (take_text(session, tag) != 0 || !add_closed(session, tag, name, &session->text))
-        return false;
-    struct closed *last = session->closed;
-    while (last->next != NULL)
-        last = last->next;
-    record_held(session, last);
-    return true;
+    const struct closed *closed = take_text(session, tag) != 0 ? NULL : add_closed(session, tag, name, &session->text);
+
+    if (closed != NULL)
+        record_held(session, closed);
+    return closed != NULL;
 }
 
 bool save_closing(struct session *session, uint16_t tag)

@@ -78,8 +78,8 @@ bool save_closing(struct session *session, uint16_t tag);
 /* Behind that: forgets the document of a file that is gone. */
 void forget_closed(struct session *session, uint16_t tag);
 
-/* Holds the text of a closed file, which could not be saved; and lets the one at a place of the list go. */
-bool add_closed(struct session *session, uint16_t tag, const char *name, const struct text *text);
+/* Holds the text of a closed file, which could not be saved: NULL where memory is out. And lets the one at a place of the list go. */
+struct closed *add_closed(struct session *session, uint16_t tag, const char *name, const struct text *text);
 void drop_closed(struct session *session, uint64_t place);
 
 /* Frees what a document has. Its copy stays on disk. */

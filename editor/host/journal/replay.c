@@ -111,7 +111,7 @@ static void take_held(struct replay *replay, struct record *record)
     struct text text = {0};
 
     text.bytes = (uint8_t *)take_data(record, &text.len);
-    if (name == NULL || record->is_wrong || !add_closed(replay->session, 0, name, &text))
+    if (name == NULL || record->is_wrong || add_closed(replay->session, 0, name, &text) == NULL)
         replay->fault = record->is_wrong ? REPLAY_DIFFERS : REPLAY_SHORT;
     free(name);
 }
