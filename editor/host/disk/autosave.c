@@ -125,12 +125,13 @@ static char *name_of(struct session *session, uint16_t tag)
 int save_copy(const struct text *text, const char *name, const char *like, struct copy *copy)
 {
     struct copy newer;
+    bool is_there = is_own(copy), has_it = is_there && is_same(copy->content, content_of(text));
 
-    if (is_own(copy) && (is_same(copy->content, content_of(text)) || keep_again(text, copy) == 0))
+    if (is_there && (name == NULL || is_named_after(copy, name)) && (has_it || keep_again(text, copy) == 0))
         return 0;
     int error = name == NULL ? ENOMEM : keep(text, name, like, SAVED, &newer);
     if (error != 0)
-        return error;
+        return is_there && (has_it || keep_again(text, copy) == 0) ? 0 : error;
     if (newer.is_temporary && newer.device != copy->device) /* a power cut may leave neither */
         forget_copy(copy);
     else

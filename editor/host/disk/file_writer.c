@@ -349,6 +349,19 @@ int keep(const struct text *text, const char *name, const char *like, const char
     return is_short ? ENOMEM : error; /* where memory is out that place may do later */
 }
 
+bool is_named_after(const struct copy *copy, const char *name)
+{
+    bool is_named = strcmp(copy->path, name) == 0; /* the file is its own copy */
+
+    for (int which = 0; !is_named && which <= OWN_FOLDERS; which++) {
+        char *front;
+        size_t len = front_at(which, name, &front) == 0 ? strlen(front) : 0;
+        is_named = len > 0 && strncmp(copy->path, front, len) == 0 && strncmp(copy->path + len, SAVED, strlen(SAVED)) == 0;
+        free(front);
+    }
+    return is_named;
+}
+
 int keep_again(const struct text *text, struct copy *copy)
 {
     struct copy new = {.path = copy->path, .is_temporary = copy->is_temporary, .is_unnoted = true};

@@ -47,6 +47,9 @@ int put_file(struct request *request);
  * alone. Hands out the copy, whose path is in memory of the caller's. */
 int keep(const struct text *text, const char *name, const char *like, const char *suffix, struct copy *copy);
 
+/* Whether a text that was saved has the name that keep gives to copies of a file: by that a later session finds it. */
+bool is_named_after(const struct copy *copy, const char *name);
+
 /* Puts another text in the place of a copy. */
 int keep_again(const struct text *text, struct copy *copy);
 

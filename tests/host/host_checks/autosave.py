@@ -198,6 +198,21 @@ def check_copy_whose_folder_comes_back(folder):
         expect_equal(text_of(copy), "one\ntwo\n", f"after {seconds} s the copy")
 
 
+def check_copy_of_a_renamed_file(folder):
+    """A text whose file has got another name since it was saved is saved by that one: there a later session finds it."""
+    made(folder, a="one\n")
+    with Session(folder, "a.txt", options=("--left",)) as session:
+        session.type("two\n")
+        wait_until((folder / "a.txt.sam-saved").exists, "the text is not saved", IDLE + LATE)
+        session.rename("b.txt")
+        session.let_pass(IDLE + LATE)
+        expect_only(folder, "a.txt", "b.txt.sam-saved")
+        expect_equal(session.end(), 0, "the status")
+        expect_line(session.lines, "b.txt was not written; its text is in b.txt.sam-saved")
+    expect_only(folder, "a.txt", "b.txt.sam-saved")
+    expect_equal(text_of(folder / "b.txt.sam-saved"), "one\ntwo\n", "the copy")
+
+
 def check_offered(folder):
     """With --left a terminal is offered the texts that earlier sessions saved, each as a file named by the tag of its file,
     whether it is newer, and when it was saved. Written empty it goes, unless it has changed. One that its file has goes at once."""
