@@ -160,17 +160,6 @@ bool is_one_file(const struct identity *one, const struct identity *other)
            (one->name == NULL || strcmp(one->name, other->name) == 0);
 }
 
-/* Finds out which files the paths name. A path of which that can't be said will fail when it is read, or when it is written. Returns the
- * exit status. */
-static int identify_all(char **paths, struct identity *identities, int count)
-{
-    int error = 0;
-
-    for (int at = 0; error != ENOMEM && at < count; at++)
-        error = identify(paths[at], &identities[at]);
-    return error == ENOMEM ? STATUS_MEMORY : STATUS_OK;
-}
-
 /* Whether a path names the file of one before it, which is said then. */
 static bool is_named_before(char **paths, const struct identity *identities, int at)
 {
@@ -190,18 +179,6 @@ bool is_folder(const char *path)
     return stat(path, &status) == 0 && S_ISDIR(status.st_mode);
 }
 
-/* Notes the files among the words, so that no folder offers one of them again. */
-static int mark_files(const struct identity *identities, int count, struct marks *marks)
-{
-    int error = 0;
-
-    for (int at = 0; error == 0 && at < count; at++) {
-        if (identities[at].name == NULL)
-            error = add_mark(marks, identities[at].device, identities[at].inode);
-    }
-    return error;
-}
-
 /* Reads the files in turn. What can't be read is left out, and said. Returns the exit status: STATUS_UNREADABLE where that is all. */
 static int add_each(struct session *session, char **paths, const struct identity *identities, int count, struct marks *marks)
 {
@@ -219,12 +196,15 @@ static int add_each(struct session *session, char **paths, const struct identity
 int add_files(struct session *session, char **paths, int count)
 {
     struct identity *identities = calloc((size_t)count + 1, sizeof *identities);
-    struct marks marks = {0};
-    int status = identities == NULL ? STATUS_MEMORY : identify_all(paths, identities, count);
+    struct marks marks = {0}; /* of the files among the words, so that no folder offers one of them again */
+    int status = STATUS_MEMORY, error = identities == NULL ? ENOMEM : 0;
 
-    if (status == STATUS_OK && mark_files(identities, count, &marks) != 0)
-        status = STATUS_MEMORY;
-    if (status == STATUS_MEMORY)
+    for (int at = 0; error != ENOMEM && at < count; at++) { /* a path of which nothing is found will fail when it is read or written */
+        error = identify(paths[at], &identities[at]);
+        if (error == 0 && identities[at].name == NULL)
+            error = add_mark(&marks, identities[at].device, identities[at].inode);
+    }
+    if (error == ENOMEM)
         say("out of memory");
     else
         status = add_each(session, paths, identities, count, &marks);
