@@ -50,8 +50,8 @@ void forget_copy(struct copy *copy);
 /* Removes the copy of a text that stands elsewhere by now, where it is the host's own. */
 void drop_copy(struct copy *copy);
 
-/* Saves a text where it was saved before, unless its file has another name since; else in a new copy, as keep does. An older copy goes then,
- * where it is the host's own; but it stays where the newer one may be in memory alone. ENOMEM where the name is NULL. */
+/* Saves a text where it was saved before, unless its file has another name since; else in a new copy, as keep does. An older copy goes
+ * then, where it is the host's own; but it stays where the newer one may be in memory alone. ENOMEM where the name is NULL. */
 int save_copy(const struct text *text, const char *name, const char *like, struct copy *copy);
 
 /* Whether a text stood whole in a copy that somebody took away since: he has seen to it. So a host whose line died unnoticed does not bring

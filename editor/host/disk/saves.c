@@ -125,7 +125,7 @@ static int in_its_own_words(int error, const struct request *request)
     return request->known.kind == NOT_THERE ? IS_THERE : request->found.kind == NOT_THERE ? IS_GONE : IS_CHANGED;
 }
 
-/* Puts the text of a file where its path leads to. Hands out where what another program had written there is now; NULL where nothing was. */
+/* Puts the text of a file where its path leads to. Hands out where what another program had written there is now, else NULL. */
 static int put_text(struct session *session, uint16_t tag, const char *path, char **theirs)
 {
     struct document *document = &session->documents[tag], *owner = NULL;

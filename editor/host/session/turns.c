@@ -68,8 +68,8 @@ void take_no_more(struct session *session)
 
 /* ---- What it asks for ---- */
 
-/* Marks the files as dirty whose text is on no disk, though the host takes them for written, so that the terminal hears of it as of any other
- * change. Returns whether there is memory for that. */
+/* Marks the files as dirty whose text is on no disk, though the host takes them for written, so that the terminal hears of it as of any
+ * other change. Returns whether there is memory for that. */
 static bool put_marks(struct session *session)
 {
     bool are_put = true;
