@@ -10,7 +10,7 @@ enum {
     MOST_BYTES = 4 * MOST_RUNES, /* bytes of a text */
     MOST_IN_NAME = 64,           /* runes of a name */
     NAME_ROOM = 256,             /* bytes of the longest name */
-    BASE_ROOM = 201,             /* bytes of the front of a file's name that names of copies begin with, and the zero after it */
+    BASE_ROOM = 201,             /* bytes of what names of a file's copies begin with, and the zero after it */
     PIECE = 65536                /* bytes that are read or written at once */
 };
 

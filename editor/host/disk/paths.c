@@ -2,6 +2,7 @@
 #define _XOPEN_SOURCE 700
 #include <errno.h>
 #include <fcntl.h>
+#include <inttypes.h>
 #include <stdarg.h>
 #include <stdio.h>
 #include <stdlib.h>
@@ -16,6 +17,7 @@
 enum {
     MOST_LINKS = 40,   /* symbolic links that are followed */
     LINK_ROOM = 4096,  /* bytes of a path that a link has */
+    HASH_ROOM = 18,    /* bytes of a dash, a hash in hexadecimal digits, and the zero after it */
     ROOM_FIRST = 65536 /* bytes that a file is expected to have */
 };
 
@@ -64,14 +66,15 @@ void base_of(const char *path, char base[BASE_ROOM])
     if (*last == '\0') /* a copy of this name would be hidden */
         last = "unnamed";
     size_t len = strlen(last);
+    char end[HASH_ROOM] = "";
 
     if (len >= BASE_ROOM) {
-        len = BASE_ROOM - 1;
+        snprintf(end, sizeof end, "-%016" PRIx64, content_of(&(struct text){(uint8_t *)last, len}).hash);
+        len = BASE_ROOM - sizeof end;
         while (len > 0 && ((unsigned char)last[len] & 0xC0) == 0x80)
             len--;
     }
-    memcpy(base, last, len);
-    base[len] = '\0';
+    snprintf(base, BASE_ROOM, "%.*s%s", (int)len, last, end);
 }
 
 int end_of_links(const char *path, char **end)

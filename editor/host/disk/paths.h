@@ -32,7 +32,7 @@ char *folder_of(const char *path);
 /* The device that the folder of a path is on; 0 where that isn't known. */
 dev_t disk_of_folder(const char *path);
 
-/* The last part of a path, cut to whole runes where it is too long. */
+/* The last part of a path; of one that is too long its front, in whole runes, and its hash, since other names may have that front. */
 void base_of(const char *path, char base[BASE_ROOM]);
 
 /* The path that symbolic links at the end of a path lead to, in memory of the caller's. Nothing needs to be there. */

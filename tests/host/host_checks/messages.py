@@ -15,7 +15,7 @@ from link_model import What
 
 from .support import (
     AGE, CLOSE, CUT, EXIT, IDLE, LATE, NO_HELLO, OPEN, REQUEST, SAMHOST, WRITE, Line, Session, as_nobody, carried, expect_equal,
-    expect_line, expect_only, made, message, names_in, on_file, own_lines, run_host, text_of, typed,
+    expect_line, expect_only, front_of, made, message, names_in, on_file, own_lines, run_host, text_of, typed,
 )  # fmt: skip
 
 DATA, LAST = 73, 88  # frames: Hdata, Hexit
@@ -279,18 +279,22 @@ def check_longest(folder):
 
 
 def check_long_names(folder):
-    """A name so long that nothing fits after it: its copy has the front of it, in whole characters, and is found again."""
+    """A name so long that nothing fits after it: its copy has the front of it, in whole characters, and a number of all of it. It is found
+    again, as none of a file whose name has the same front."""
     for front in ("", "x"):
         place = folder / f"of {len(front)}"
         place.mkdir()
         made(place)
-        name, copy = front + "é" * 114 + ".txt", front + "é" * (100 - len(front)) + ".sam-saved"
+        name, other = front + "é" * 114 + ".txt", front + "é" * 114 + ".text"
+        copy = front + "é" * 91 + "-" + front_of(name)[:16] + ".sam-saved"
         (place / name).write_text("one\n")
+        (place / other).write_text("other\n")
         with Session(place, name) as session:
             session.type("two\n")
             session.end()
-        expect_only(place, name, copy)
-        with Session(place, name) as session:
+        expect_only(place, name, other, copy)
+        with Session(place, name, other) as session:
+            expect_equal(len(session.lines), 1, f"how much it says, in {session.lines}: it")
             expect_line(session.lines, f"{name} has a text that was not written: it is in {copy}{AGE}")
             session.type("two\n")
             session.write()
