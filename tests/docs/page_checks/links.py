@@ -48,10 +48,11 @@ def check_set(_folder):
 
 
 def check_cells(_folder):
-    """No cell of a table in a how-to has more than 40 words."""
+    """No cell of a table has more than 60 words, and in a how-to none more than 40."""
     long = []
-    for page in sorted((ROOT / "docs/howto").glob("*.md")):
+    for page in pages():
+        most = 40 if page.parent.name == "howto" else 60
         for cell in re.findall(r"[^|\n]+(?=\|)|(?<=\|)[^|\n]+", page.read_text()):
-            if len(cell.split()) > 40:
+            if len(cell.split()) > most:
                 long.append(f"{page.name}: {cell.strip()[:60]}")
-    expect(not long, f"these cells have more than 40 words: {long}")
+    expect(not long, f"these cells are too long: {long}")
