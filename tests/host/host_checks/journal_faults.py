@@ -10,9 +10,8 @@ from checks import GIVEN_UP, MNT_DETACH, Skipped, expect, libc, wait_until
 from link_model import What
 
 from .journals import ENDED, kill, kinds_of, records_of, typed
-from .line import Staying, home_of, is_running, pid_of, state_of, with_calls
+from .line import Staying, expect_gone, home_of, is_running, pid_of, state_of, with_calls
 from .memory import build_full_disk
-from .persistent_session import expect_gone
 from .support import SAMHOST, expect_equal, made, names_in, text_of
 
 FAULTS = int(os.environ.get("FAULTS") or 24)  # how many single faults are tried of each call and error; 1000: all that there are

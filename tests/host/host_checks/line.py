@@ -37,6 +37,11 @@ def is_running(pid):
         return False
 
 
+def expect_gone(folder, staying):
+    """The session has ended, and left no folder."""
+    wait_until(lambda: not home_of(folder, staying.name).exists(), "its folder stays")
+
+
 @contextlib.contextmanager
 def with_calls(pid, *words):
     """Has strace do something to calls of a process, as these words of it say, until this ends or the process does."""
@@ -290,4 +295,4 @@ class Staying:
         """Leaves the session, as the user does."""
         self.terminal.exit()
         self.wait_for_end(0)
-        wait_until(lambda: not home_of(self.folder, self.name).exists(), "the session's folder stays")
+        expect_gone(self.folder, self)
