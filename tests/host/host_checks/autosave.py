@@ -14,7 +14,7 @@ from checks import GIVEN_UP, expect, wait_until
 
 from .support import (
     AGE, IDLE, IS_ROOT, LATE, LONGEST_UNSAVED, NOBODY, SAMHOST, Session, as_nobody, expect_equal, expect_line, expect_only, front_of,
-    made, names_in, own_copy, own_lines, stop, text_of, with_mount, without_mount,
+    made, names_in, own_copy, own_lines, stop, text_of, with_disk, without_mount,
 )  # fmt: skip
 
 
@@ -143,10 +143,7 @@ def check_stale_host(folder):
 
 def check_copy_whose_disk_is_gone(folder):
     """A copy that goes with its disk nobody has taken away: the text is saved again at the end."""
-    made(folder)
-    (folder / "place").mkdir()
-    mount = "mount -t tmpfs none place && printf 'one\\n' >place/a.txt"
-    with Session(folder, "place/a.txt", prefix=with_mount(folder, mount)) as session:
+    with Session(folder, "place/a.txt", prefix=with_disk(folder, "place")) as session:
         session.type("two\n")
         inside = Path(f"/proc/{session.process.pid}/cwd/place/a.txt.sam-saved")
         wait_until(inside.exists, "the text is not saved", IDLE + LATE)

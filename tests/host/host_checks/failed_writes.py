@@ -10,7 +10,7 @@ from checks import Skipped, expect, wait_until
 
 from .support import (
     IDLE, IS_ROOT, LATE, LONGEST_UNSAVED, NOBODY, Session, as_nobody, expect_equal, expect_line, expect_only, front_of, made, names_in,
-    own_copy, text_of, with_mount, without_mount,
+    own_copy, text_of, with_disk, without_mount,
 )  # fmt: skip
 
 
@@ -99,10 +99,7 @@ def check_closed_and_not_saved(folder):
 
 def check_full_disk(folder):
     """A disk without room: the file is whole, the copy is on another disk, and once there is room the file is written."""
-    made(folder)
-    (folder / "full").mkdir()
-    prefix = with_mount(folder, "mount -t tmpfs -o size=64k none full && printf 'one\\n' >full/a.txt")
-    with Session(folder, "full/a.txt", prefix=prefix) as session:
+    with Session(folder, "full/a.txt", prefix=with_disk(folder, "full", "size=64k")) as session:
         inside = Path(f"/proc/{session.process.pid}/cwd/full")
         (inside / "filler").write_bytes(bytes(40_000))
         session.type("x" * 50_000)
@@ -123,11 +120,9 @@ def check_full_disk(folder):
 def check_full_disk_keeps_an_older_copy(folder):
     """Where a later text has room only in a folder for temporary files, which a power cut may empty, the older copy stays; so it is with what
     was cut."""
-    made(folder)
-    (folder / "disk").mkdir()
-    mount = "mount -t tmpfs -o size=256k none disk && printf 'one two\\n' >disk/a.txt && cd disk"
+    prefix = with_disk(folder, "disk", "size=256k", text="one two\n", then="cd disk")
     environment = {"XDG_STATE_HOME": str(folder / "disk" / "state")}
-    with Session(folder, "a.txt", prefix=with_mount(folder, mount), options=("--left",), environment=environment) as session:
+    with Session(folder, "a.txt", prefix=prefix, options=("--left",), environment=environment) as session:
         inside, own = Path(f"/proc/{session.process.pid}/cwd"), folder / "temporary" / f"sulgrevad-{os.geteuid()}"
         older = {name: inside / f"{name}.sam-saved" for name in ("a.txt", "cut")}
         newer = {name: own / f"{front_of(folder / 'disk' / name)}.sam-saved" for name in older}
@@ -157,10 +152,7 @@ def check_full_disk_keeps_an_older_copy(folder):
 def check_write_while_its_disk_is_gone(folder):
     """A file that is gone with its disk is not made anew under the place of that at once, where nobody finds it once the disk is back. That
     is said, and the next write makes it. A file that is only removed is made anew at once."""
-    made(folder)
-    (folder / "place").mkdir()
-    mount = "mount -t tmpfs none place && printf 'one\\n' >place/a.txt"
-    with Session(folder, "place/a.txt", prefix=with_mount(folder, mount)) as session:
+    with Session(folder, "place/a.txt", prefix=with_disk(folder, "place")) as session:
         session.type("two\n")
         Path(f"/proc/{session.process.pid}/cwd/place/a.txt").unlink()
         session.write()
@@ -224,10 +216,7 @@ def check_name_in_a_folder_that_can_t_be_read(folder):
 
 def check_read_only_disk(folder):
     """On a disk that is read only the text goes to the user's own folder."""
-    made(folder)
-    (folder / "disk").mkdir()
-    mount = "mount -t tmpfs none disk && printf 'one\\n' >disk/a.txt && mount -o remount,ro disk"
-    with Session(folder, "disk/a.txt", prefix=with_mount(folder, mount)) as session:
+    with Session(folder, "disk/a.txt", prefix=with_disk(folder, "disk", then="mount -o remount,ro disk")) as session:
         session.type("two\n")
         session.write()
         copy = own_copy(folder, "disk/a.txt")

@@ -42,6 +42,13 @@ def expect_gone(folder, staying):
     wait_until(lambda: not home_of(folder, staying.name).exists(), "its folder stays")
 
 
+def traced(log, calls):
+    """Words that run a command, and have strace note in a file its calls of these names, with paths, and without other texts."""
+    if shutil.which("strace") is None:
+        raise Skipped("no strace")
+    return ("strace", "-f", "-qq", "-y", "-s", "0", "-o", log, "-e", f"trace={calls}")
+
+
 @contextlib.contextmanager
 def with_calls(pid, *words):
     """Has strace do something to calls of a process, as these words of it say, until this ends or the process does."""

@@ -11,7 +11,7 @@ from pathlib import Path
 from checks import GIVEN_UP, Skipped, expect, wait_until
 
 from .journals import is_session
-from .line import Staying, home_of, pid_of, state_of
+from .line import Staying, home_of, pid_of, state_of, traced
 from .support import IS_ROOT, NOBODY, SAMHOST, expect_equal, made, text_of
 
 OWN = "fedcba9876543210"  # the name of a session, which no other check gives
@@ -49,14 +49,11 @@ def made_for_all(calls, room):
 def check_guarded_from_the_first_moment(folder):
     """With a umask that keeps nothing from others, each folder, socket and file of a session is the user's alone as it is made, with no
     moment in which it is open, and no symbolic link is followed to a file."""
-    if shutil.which("strace") is None:
-        raise Skipped("no strace")
     made(folder, a="one\n")
     log, room = folder / "calls", state_of(folder)
     before = os.umask(0)
     try:
-        words = ("strace", "-f", "-qq", "-y", "-s", "4096", "-o", log, "-e", f"trace={MAKING}")
-        with Staying(folder, "a.txt", prefix=words) as session:
+        with Staying(folder, "a.txt", prefix=traced(log, MAKING)) as session:
             session.type("two\n")
             session.abandon()  # what traces the calls goes on
             with Staying(folder, takes=session.name) as heir:

@@ -4,14 +4,13 @@ import os
 import random
 import re
 import resource
-import shutil
 import subprocess
 
 import sulgrevad
-from checks import GIVEN_UP, Skipped, expect, times_slower, wait_until
+from checks import GIVEN_UP, expect, times_slower, wait_until
 
 from .journals import DONE, HELLO, UP, kill, records_of
-from .line import Staying, home_of
+from .line import Staying, home_of, traced
 from .support import SAMHOST, expect_equal, made, text_of
 
 TAIL = 4096  # bytes of a journal that a power cut may take
@@ -21,6 +20,7 @@ AT_ONCE = 4
 LONG = 16_000_000  # bytes
 SECONDS_TO_READ = 1.0  # of the processor, for so many bytes
 NAMES = ("a.txt", "b.txt")
+OF_THE_JOURNAL = "writev,fdatasync"  # calls that write it, and bring it to the disk
 
 
 def lived(place):
@@ -157,13 +157,6 @@ def check_power_cut_that_leaves_zeros(folder):
         left.expect_texts(len(left.journal) - count, left.texts_at_the_end(-count))
 
 
-def traced(log):
-    """Words that run a command and note in a file what it writes to its journal, and when that is on the disk."""
-    if shutil.which("strace") is None:
-        raise Skipped("no strace")
-    return ("strace", "-f", "-qq", "-y", "-s", "0", "-o", log, "-e", "trace=writev,fdatasync")
-
-
 def synced(log, size):
     """How many bytes of a journal are on the disk that had so many at first, and how often it was synced, as the calls say."""
     on_disk, syncs, is_fresh = 0, 0, False
@@ -201,7 +194,7 @@ class PowerCuts:
         journal.write_bytes(left)
         self.size = records_of(left)[1]
         self.log.unlink()
-        self.session.prefix = traced(self.log)
+        self.session.prefix = traced(self.log, OF_THE_JOURNAL)
         return syncs
 
 
@@ -210,7 +203,7 @@ def check_power_cut_at_the_last_sync(folder):
     also where the rest would come out otherwise now, as a long file that is being loaded, a write that was refused, and names of files."""
     (path, _) = made(folder, a="one\n", b="a line of the long file\n" * 30_000)
     log = folder / "temporary" / "calls"
-    with Staying(folder, "a.txt", "b.txt", options=("--left",), prefix=traced(log)) as session:
+    with Staying(folder, "a.txt", "b.txt", options=("--left",), prefix=traced(log, OF_THE_JOURNAL)) as session:
         terminal, link, power = session.terminal, session.link, PowerCuts(folder, session, log)
         for count in range(3):
             session.type(f"key {count}\n")
@@ -250,8 +243,7 @@ def check_power_cut_leaves_no_newer_file(folder):
     """Before a file is written the disk has what asked for that, and it is acknowledged: the disk may take long."""
     made(folder, a="one\n")
     log = folder / "temporary" / "calls"
-    words = (*traced(log)[:-1], "trace=writev,fdatasync,sendto,rename")
-    with Staying(folder, "a.txt", prefix=words) as session:
+    with Staying(folder, "a.txt", prefix=traced(log, f"{OF_THE_JOURNAL},sendto,rename")) as session:
         session.type("two\n")
         session.terminal.write(1)
         session.settle()
@@ -271,7 +263,7 @@ def check_power_needs_one_sync_for_an_answer(folder):
     a pause it is, too, when texts are saved aside.)"""
     made(folder, a="one\n")
     log = folder / "temporary" / "calls"
-    with Staying(folder, "a.txt", prefix=traced(log)) as session:
+    with Staying(folder, "a.txt", prefix=traced(log, OF_THE_JOURNAL)) as session:
         power = PowerCuts(folder, session, log)
         for _ in range(30):
             session.terminal.select(1, 0, 0)
@@ -288,12 +280,9 @@ def check_power_needs_one_sync_for_an_answer(folder):
 
 def check_power_cut_keeps_the_folder(folder):
     """The names of what a session has are on the disk before anything is acknowledged, also once another terminal has taken it over."""
-    if shutil.which("strace") is None:
-        raise Skipped("no strace")
     made(folder, a="one\n")
     log = folder / "calls"
-    words = ("strace", "-f", "-qq", "-y", "-s", "8", "-o", log, "-e", "trace=fsync,fdatasync,sendto,renameat,renameat2,listen")
-    with Staying(folder, "a.txt", prefix=words) as session:
+    with Staying(folder, "a.txt", prefix=traced(log, "fsync,fdatasync,sendto,renameat,renameat2,listen")) as session:
         session.type("two\n")
         session.abandon()  # what traces the calls goes on
         with Staying(folder, takes=session.name) as heir:
@@ -310,12 +299,10 @@ def check_power_cut_keeps_the_folder(folder):
 
 def check_power_cut_keeps_new_folders(folder):
     """The folders that are made for the first session are on the disk before it is acknowledged, each by its name in the one above."""
-    if shutil.which("strace") is None:
-        raise Skipped("no strace")
     made(folder, a="one\n")
     log = folder / "calls"
-    words = ("strace", "-f", "-qq", "-y", "-s", "4096", "-o", log, "-e", "trace=mkdir,fsync,listen")
-    with Staying(folder, "a.txt", prefix=("env", f"XDG_STATE_HOME={folder}/new/state", *words), begin=False) as session:
+    words = ("env", f"XDG_STATE_HOME={folder}/new/state", *traced(log, "mkdir,fsync,listen"))
+    with Staying(folder, "a.txt", prefix=words, begin=False) as session:
         wait_until(lambda: log.exists() and "listen(" in log.read_text(), "it doesn't begin")
         session.abandon()
     calls = re.findall(r'^\d+ +(?:(mkdir)\("([^"]*)".*|(fsync)\(\d+<([^>]*)>\)) = 0$', log.read_text().split("listen(")[0], re.MULTILINE)

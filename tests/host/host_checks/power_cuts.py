@@ -10,14 +10,13 @@ import sulgrevad
 from checks import GIVEN_UP, expect, wait_until
 
 from .journals import HEAD
-from .line import Staying, home_of, is_running
-from .power import traced
+from .line import Staying, home_of, is_running, traced
 from .support import expect_equal, made, text_of
 
 POWER_CUTS = int(os.environ.get("POWER_CUTS") or 48)  # in all sessions together
 AT_ONCE = 4
 BLOCK = 512  # bytes of which all reach the disk, or none
-CALLS = "trace=writev,fdatasync,ftruncate"
+CALLS = "writev,fdatasync,ftruncate"
 
 
 def processes_of(name, tracer):
@@ -52,9 +51,6 @@ class PowerCuts:
     def __init__(self, folder, seed):
         self.folder, self.numbers, self.log = folder, random.Random(seed), folder / "temporary" / "calls"
         self.text, self.words, self.cuts, self.disk = "", 0, 0, b""
-
-    def traced(self):
-        return (*traced(self.log)[:-1], CALLS)
 
     def type(self, session):
         for _ in range(self.numbers.randrange(1, 6)):
@@ -102,12 +98,12 @@ class PowerCuts:
         self.disk = self.left(journal.read_bytes())
         journal.write_bytes(self.disk)
         self.log.unlink(missing_ok=True)
-        session.prefix = self.traced()
+        session.prefix = traced(self.log, CALLS)
         self.cuts += 1
 
     def go(self, cuts):
         made(self.folder, a="")
-        with Staying(self.folder, "a.txt", prefix=self.traced(), kind=sulgrevad.Link) as session:
+        with Staying(self.folder, "a.txt", prefix=traced(self.log, CALLS), kind=sulgrevad.Link) as session:
             while self.cuts < cuts:
                 session.carry(lambda: session.process is not None, "no line is there")  # all may have been acknowledged before the cut
                 self.type(session)

@@ -3,6 +3,7 @@ import os
 import re
 import resource
 import select
+import shlex
 import shutil
 import signal
 import subprocess
@@ -332,6 +333,13 @@ def with_mount(folder, mount):
     if subprocess.run([*words, "true"], cwd=folder, capture_output=True).returncode != 0:
         raise Skipped("nothing can be mounted here")
     return words
+
+
+def with_disk(folder, name, options="defaults", text="one\n", then="true"):
+    """Words that run a command where a new folder of this name is a disk of its own, which has the text as a.txt; `then` is done before."""
+    made(folder)
+    (folder / name).mkdir()
+    return with_mount(folder, f"mount -t tmpfs -o {options} none {name} && printf %s {shlex.quote(text)} >{name}/a.txt && {then}")
 
 
 def without_mount(session, place):
