@@ -85,8 +85,7 @@ def check_failed_write(folder):
     """A write that fails is told, and the buffer stays modified until one succeeds; :wq stays."""
     with Place(folder) as place:
         (place.host.folder / "gone").mkdir()
-        neovim = place.opened("gone/notes.txt", "one\n")
-        neovim.keys("Ax<Esc>")
+        neovim = place.changed("gone/notes.txt")
         shutil.rmtree(place.host.folder / "gone")
         neovim.command("write")
         neovim.wait_told("notes.txt")
@@ -103,8 +102,7 @@ def check_failed_write(folder):
 def check_own_name(folder):
     """:saveas and :file leave the buffer its name, and write no other file's text over the host's; :w writes its own."""
     with Place(folder) as place:
-        neovim = place.opened("notes.txt", "one\n")
-        neovim.keys("Ax<Esc>")
+        neovim = place.changed()
         name = neovim.lua("return vim.api.nvim_buf_get_name(0)")
         other = name.replace("notes.txt", "other.txt")
         for command in (f"saveas {other}", f"file {other} | write", f"saveas {folder}/here.txt", f"file {other}", "0file"):
@@ -119,8 +117,7 @@ def check_own_name(folder):
 def check_end_in_write(folder):
     """Where an error ends the session within a write, :w says so, the buffer stays modified, and :w NAME writes its text here."""
     with Place(folder) as place:
-        neovim = place.opened("notes.txt", "one\n")
-        neovim.keys("Ax<Esc>")
+        neovim = place.changed()
         neovim.wait_settled()
         told, is_modified = neovim.lua(END_IN_WRITE)
         expect("not written" in told and "no memory" in told and is_modified, f"{told!r}, modified: {is_modified}")
@@ -192,8 +189,7 @@ def check_unload(folder):
 def check_replacing(folder):
     """A write over another program's text is refused once and told; the next one replaces that text."""
     with Place(folder) as place:
-        neovim = place.opened("notes.txt", "one\n")
-        neovim.keys("Ax<Esc>")
+        neovim = place.changed()
         neovim.wait_settled()
         place.host.write("notes.txt", "other text\n")
         neovim.command("write")
@@ -237,8 +233,7 @@ def check_replacing_at_end(folder):
 def check_leave(folder):
     """:wq writes and ends the session; after :bd the file can be opened again; :w NAME writes here."""
     with Place(folder) as place:
-        neovim = place.opened("notes.txt", "one\n")
-        neovim.keys("Ax<Esc>")
+        neovim = place.changed()
         place.expect_same(neovim, "notes.txt")
         neovim.lua("vim.cmd('write! ' .. vim.fn.fnameescape(...))", str(folder / "copy.txt"))
         neovim.command("bdelete")
@@ -254,8 +249,7 @@ def check_leave_all(folder):
     """:wqa writes all files before Neovim ends, and where one can't be written it doesn't end."""
     with Place(folder) as place:
         (place.host.folder / "gone").mkdir()
-        neovim = place.opened("gone/notes.txt", "one\n")
-        neovim.keys("Ax<Esc>")
+        neovim = place.changed("gone/notes.txt")
         place.host.write("other.txt", "other\n")
         place.open(neovim, "other.txt")
         neovim.keys("Ay<Esc>")
@@ -272,8 +266,7 @@ def check_leave_all(folder):
 def check_leave_unwritten(folder):
     """Where :w fails and Neovim ends at once, what the host says of it is told, and its copy is there."""
     with Place(folder) as place:
-        neovim = place.opened("notes.txt", "one\n")
-        neovim.keys("Ax<Esc>")
+        neovim = place.changed()
         neovim.wait_settled()
         place.host.write("notes.txt", "other text\n")
         neovim.ask("nvim_input", ":w|q<CR>")
@@ -336,8 +329,7 @@ COMPLETE = "return vim.fn.getcompletion(..., 'cmdline')"
 def check_takeover(folder):
     """A second Neovim takes a session over, with what was not written; the first is told, and keeps its text."""
     with Place(folder) as place:
-        first = place.opened("notes.txt", "one\n")
-        first.keys("Ax<Esc>")
+        first = place.changed()
         first.wait_settled()
         second = place.neovim()
         second.command(f"Sulgrevad {place.host.command} --take")

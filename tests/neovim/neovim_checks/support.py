@@ -197,6 +197,12 @@ class Place:
         self.open(neovim, name)
         return neovim
 
+    def changed(self, name="notes.txt"):
+        """A Neovim that shows a file of the host, the line "one", behind which its user has typed an x."""
+        neovim = self.opened(name, "one\n")
+        neovim.keys("Ax<Esc>")
+        return neovim
+
     def open(self, neovim, name):
         neovim.command(f"Sulgrevad {self.host.command} {name}")
         neovim.wait("vim.bo.modifiable and vim.bo.buftype == 'acwrite'")
