@@ -66,7 +66,7 @@ def check_first_session(folder):
     (begin, kill_host, kill_terminal, take), (line,) = commands()
     begin, name = begin.rsplit("\nsamterm ", 1)
     expect_equal((kill_host, kill_terminal), ("pkill -KILL samhost\n", f"pkill -KILL -f 'samterm {name.strip()}'\n"))
-    expect_equal(take, "cd first && samterm --take samhost\n")
+    expect_equal(take, "samterm --take samhost\n")
     subprocess.run(["sh", "-e", "-c", begin], cwd=folder, check=True)
     place = folder / "first"
     with Session(place, name.strip(), stays=True) as session:
