@@ -114,3 +114,46 @@
   (run-with-timer 0.1 0.1 #'skip-pause)
   (setq room (file-name-as-directory folder) temporary-file-directory room sulgrevad-stay-hours 0.02 sulgrevad-patience 30)
   (dolist (buffer (buffer-list)) (with-current-buffer buffer (setq default-directory room))))
+
+(defvar samhost nil "The program.")
+
+(defun path (name)
+  "A file of the folder."
+  (expand-file-name name room))
+
+(defun made (name text)
+  "Have the file NAME hold TEXT.  Return its path."
+  (make-directory (file-name-directory (path name)) t)
+  (let ((coding-system-for-write 'utf-8-unix)) (write-region text nil (path name) nil 'silent))
+  (path name))
+
+(defun relayed ()
+  "A command whose line can be cut off and stalled, and is not there while the file `down' is."
+  (list "/bin/sh" "-c" "cd \"$0\"; [ ! -e down ] || exit 1; exec 3<&0; \"$@\" <&3 & echo $! >relay; wait $!" room samhost))
+
+(defun signal-line (signal)
+  "Send SIGNAL to what relays behind the process of the line, if that runs.  A number of a process that has ended may be another's."
+  (let ((relay (string-to-number (disk (path "relay")))) (line (process)))
+    (when (and line (eql (process-id line) (alist-get 'ppid (process-attributes relay))))
+      (signal-process relay signal))))
+
+(defun cut-line (&optional stays)
+  "Have the line break; with STAYS none comes after it."
+  (when stays (made "down" ""))
+  (wait-for (lambda () (signal-line 'KILL)))
+  (wait-for (lambda () (sulgrevad-line-is-broken sulgrevad--line))))
+
+(defun mend-line ()
+  "Have a line come again, and wait for it."
+  (ignore-errors (delete-file (path "down")))
+  (wait-for (lambda () (sulgrevad-line-is-open sulgrevad--line))))
+
+(defun refused (act)
+  "Why ACT is a user's error, or nil."
+  (condition-case why (ignore (funcall act)) (user-error (error-message-string why))))
+
+(defun run (checks &rest words)
+  "Do CHECKS with WORDS, or those of them that are in `only', where that is set.  Then print the numbers."
+  (dolist (one checks)
+    (when (memq one (or (bound-and-true-p only) (list one))) (apply one words)))
+  (princ (format "%d passed, %d failed\n" passed failed)))
