@@ -18,12 +18,13 @@
 (require 'subr-x)
 (require 'sulgrevad-line)
 
-(declare-function sulgrevad--pump-after "sulgrevad-session" ())
 (declare-function sulgrevad-mode "sulgrevad" (&optional arg))
 
 (defconst sulgrevad--gap-sign ?· "What stands for each rune that is not loaded.")
+(defconst sulgrevad-most-unsent 0.5 "After how many seconds an edit is sent that no command has made.")
 
 (defvar sulgrevad--client nil "The client of the session, or nil.")
+(defvar sulgrevad--line nil "The line to the host.")
 (defvar sulgrevad--buffers nil "The buffers of open files.")
 (defvar sulgrevad--is-taking nil "Whether a buffer is being changed to what the client shows.")
 
@@ -175,7 +176,7 @@ It signals no error and no quit, since Emacs would not call it again."
             (when (and is-known (sulgrevad--is-as-long (- end start old)))
               (setq sulgrevad--has-drifted (sulgrevad--give (1- start) (1- end) (+ (1- start) old))))
           (error nil))
-        (sulgrevad--pump-after))
+        (sulgrevad-line-schedule sulgrevad--line sulgrevad-most-unsent)) ; a timer or a process may have made it, and no command
       (setq sulgrevad--tick (buffer-chars-modified-tick)))))
 
 (defun sulgrevad--is-as-long (more)

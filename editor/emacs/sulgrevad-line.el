@@ -21,7 +21,7 @@
 (define-error 'sulgrevad-no-memory "Sulgrevad" 'sulgrevad-error) ; nothing is lost, and the call is to be made again later
 
 (defconst sulgrevad-line--late-after 2 "Seconds without an answer after which the line counts as late.")
-(defconst sulgrevad-line--retry 0.1 "Seconds until that for which memory was out is tried again.")
+(defconst sulgrevad-line-retry 0.1 "Seconds until that for which memory was out is tried again.")
 (defconst sulgrevad-line--most-told 4096 "Characters of a line that a program has written to standard error.")
 (defconst sulgrevad-line--no-session 196 "The status of a host that does not find the session.")
 (defconst sulgrevad-line--lost
@@ -58,9 +58,9 @@
 
 (defun sulgrevad-line-make (command receive &optional takes-over)
   "Make a line to a host of COMMAND, a list of words or a shell's line.
-RECEIVE is called with what comes: `came' when the client is to go on;
-`told' and a line of a program's standard error; `state' when the line
-was lost or is back; `lost' and why, once no connection comes any more.
+RECEIVE is called with what comes: `came' when the client is to go on,
+and a second later at most; `told' and a line of a program's standard
+error; `lost' and why, once no connection comes any more.
 With TAKES-OVER the session was another terminal's."
   (let ((client (sulgrevad-client-make takes-over (sulgrevad-line--now))))
     (sulgrevad-line--make
@@ -124,8 +124,8 @@ With IN-FRONT it gets a terminal."
 (defun sulgrevad-line--break (line)
   "The newest connection of LINE is over: another is tried after a pause."
   (sulgrevad-line--drop line)
-  (funcall (sulgrevad-line-receive line) 'state nil)
-  (sulgrevad-line--schedule line))
+  (funcall (sulgrevad-line-receive line) 'came nil)
+  (sulgrevad-line-schedule line))
 
 (defun sulgrevad-line--lose (line why)
   "No connection of LINE comes any more, because of WHY."
@@ -155,7 +155,7 @@ With PASSES-ON the connection ends once it has carried its last bytes."
   (when (and (eq process (sulgrevad-line-process line)) (null (sulgrevad-line-why line)))
     (cond ((process-live-p process) (sulgrevad-line-push line)) ; it was stopped, and goes on
           ((sulgrevad-state-is-known (sulgrevad-line-state line)) (sulgrevad-line--break line))
-          (t (while (accept-process-output (sulgrevad-line-errors line) sulgrevad-line--retry)) ; what it told
+          (t (while (accept-process-output (sulgrevad-line-errors line) sulgrevad-line-retry)) ; what it told
              (sulgrevad-line--lose line "the host is gone")))))
 
 ;;; What is due by the clock
@@ -176,30 +176,24 @@ With PASSES-ON the connection ends once it has carried its last bytes."
           ('connect (sulgrevad-line-connect-again line))
           ('drop (sulgrevad-line--break line)))))
     (funcall (sulgrevad-line-receive line) 'came nil)
-    (when (sulgrevad-line-is-late line) (funcall (sulgrevad-line-receive line) 'state nil))
-    (sulgrevad-line--schedule line)))
+    (sulgrevad-line-schedule line)))
 
 (defun sulgrevad-line--delay (line)
   "Seconds until something is due by the clock for LINE, or nil.
 It is a second at most, since the mode line has the time."
   (let ((left (and (sulgrevad-line--is-timed line) (sulgrevad-client-due-in (sulgrevad-line-client line) (sulgrevad-line--now)))))
-    (cond ((not (string-empty-p (sulgrevad-line-unfed line))) sulgrevad-line--retry)
+    (cond ((not (string-empty-p (sulgrevad-line-unfed line))) sulgrevad-line-retry)
           (left (min 1 (/ left 1000.0)))
           ((not (sulgrevad-line-is-open line)) 1))))
 
-(defun sulgrevad-line--schedule (line &optional seconds)
-  "Have `sulgrevad-line--on-time' be called when something is due for LINE.
-That is in so many SECONDS at the latest."
+(defun sulgrevad-line-schedule (line &optional seconds)
+  "Have LINE go on when something is due, in so many SECONDS at the latest."
   (let* ((due (sulgrevad-line--delay line)) (delay (if (and due seconds) (min due seconds) (or due seconds)))
          (timer (sulgrevad-line-timer line)))
     (when (and delay (null (sulgrevad-line-why line))
                (or (null timer) (< (+ delay (float-time)) (float-time (timer--time timer))))) ; a later one puts off none
       (when timer (cancel-timer timer))
       (setf (sulgrevad-line-timer line) (run-with-timer (max 0.01 delay) nil #'sulgrevad-line--on-time line)))))
-
-(defun sulgrevad-line-retry (line)
-  "Have LINE go on a moment later, since memory is out."
-  (sulgrevad-line--schedule line sulgrevad-line--retry))
 
 ;;; Bytes
 
@@ -212,16 +206,14 @@ That is in so many SECONDS at the latest."
                           (setq bytes (sulgrevad-client-take-out (sulgrevad-line-client line) (sulgrevad-line--now))))))
           (process-send-string process bytes))
       (error (when (eq process (sulgrevad-line-process line)) (sulgrevad-line--break line)))) ; the next one brings them again
-    (sulgrevad-line--schedule line)))
+    (sulgrevad-line-schedule line)))
 
 (defun sulgrevad-line--came (line process bytes)
   "BYTES of PROCESS have come, which may be the newest connection of LINE."
   (when (and (eq process (sulgrevad-line-process line)) (null (sulgrevad-line-why line)))
-    (let ((was-late (sulgrevad-line-is-late line)))
-      (setf (sulgrevad-line-unfed line) (concat (sulgrevad-line-unfed line) bytes))
-      (sulgrevad-line--feed line)
-      (funcall (sulgrevad-line-receive line) 'came nil)
-      (when (and was-late (not (sulgrevad-line-is-late line))) (funcall (sulgrevad-line-receive line) 'state nil)))))
+    (setf (sulgrevad-line-unfed line) (concat (sulgrevad-line-unfed line) bytes))
+    (sulgrevad-line--feed line)
+    (funcall (sulgrevad-line-receive line) 'came nil)))
 
 (defun sulgrevad-line--feed (line)
   "Give the client of LINE what has come on the newest connection."

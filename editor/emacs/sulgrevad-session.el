@@ -38,7 +38,6 @@ nil is samhost's own choice."
 (defconst sulgrevad-all-tags 65536 "How many tags a session has at most.")
 (defconst sulgrevad-most-told 10 "How many lines of what was told are noted.")
 (defconst sulgrevad-most-kept 100 "How many wishes are noted.")
-(defconst sulgrevad-most-unsent 0.5 "After how many seconds an edit is sent that no command has made.")
 (defconst sulgrevad-most-silent 60 "For how many seconds a batch Emacs waits for a host that is silent.")
 (defconst sulgrevad-untold 0.5 "For how many seconds at most nothing is said of what takes its time.")
 (defconst sulgrevad-rest 1 "How many seconds the user rests before a file comes up by itself.")
@@ -47,7 +46,6 @@ nil is samhost's own choice."
   "What the name of a session is like.
 The host says it, and it becomes a word of a command.")
 
-(defvar sulgrevad--line nil "The line to the host.")
 (defvar sulgrevad--told nil "What was told last, the last first.")
 (defvar sulgrevad--lines nil
   "The command lines that are asked for.
@@ -61,7 +59,6 @@ Of each its tag, and in a pair the note and the name that it had.")
 (defvar sulgrevad--ended-with nil "The status with which the session has ended.")
 (defvar sulgrevad--is-named nil "Whether the host has said the first message.")
 (defvar sulgrevad--is-taken nil "Whether another terminal has the session.")
-(defvar sulgrevad--timer nil "What sends edits that no command has made, or nil.")
 (defvar sulgrevad--is-pumping nil "Whether the client goes on.")
 (defvar sulgrevad--is-waiting nil "Whether a command waits for the host.")
 
@@ -105,7 +102,7 @@ undo: saved, they would be written nowhere."
             (sulgrevad--keep-meanwhile)))
       (sulgrevad-no-memory (message "Sulgrevad: %s" (cadr why))
                            (sulgrevad-line-push sulgrevad--line)
-                           (sulgrevad-line-retry sulgrevad--line))
+                           (sulgrevad-line-schedule sulgrevad--line sulgrevad-line-retry))
       (sulgrevad-error (sulgrevad--lose (cadr why)))
       (error (message "Sulgrevad: %s" (error-message-string why)))))) ; a hook that signals one is not called again
 
@@ -118,14 +115,6 @@ act first, by which no buffer changes."
      (unless (sulgrevad-state-is-acting (sulgrevad--state)) (signal (car why) (cdr why)))
      (sulgrevad--go-on)
      (sulgrevad--hand-over-all))))
-
-(defun sulgrevad--pump-after ()
-  "Send soon what a timer or a process of another edits.
-No command ends then."
-  (unless sulgrevad--timer
-    (setq sulgrevad--timer (run-with-timer sulgrevad-most-unsent nil (lambda ()
-                                                                       (setq sulgrevad--timer nil)
-                                                                       (sulgrevad--pump))))))
 
 (defun sulgrevad--go-on ()
   "Have the client go on, and do as it told.
@@ -161,9 +150,9 @@ Return whether there is one.  The kill ring has it."
   "An EVENT of `sulgrevad-line-make' has come, and WHAT."
   (pcase event
     ('lost (sulgrevad--lose what))
-    ('told (sulgrevad--note-told what)
-           (message "%s" what))
-    ('state (force-mode-line-update t)))
+    ('told (setq sulgrevad--told (seq-take (cons what sulgrevad--told) sulgrevad-most-told))
+           (message "%s" what)))
+  (force-mode-line-update t)            ; it tells how the line is
   (if sulgrevad--is-pumping (run-with-timer 0 nil #'sulgrevad--pump) ; it came while bytes were sent
     (sulgrevad--pump)))
 
@@ -186,7 +175,7 @@ Return whether there is one.  The kill ring has it."
   "Do as a NOTE of the host has told.
 One of a later version has no kind."
   (let ((text (sulgrevad-note-text note)) (tag (sulgrevad-note-tag note)) (kind (sulgrevad-note-kind note)))
-    (unless (string-empty-p text) (sulgrevad--note-told text))
+    (unless (string-empty-p text) (setq sulgrevad--told (seq-take (cons text sulgrevad--told) sulgrevad-most-told)))
     (pcase kind
       ('session (sulgrevad--meet-name note))
       ((guard (not sulgrevad--is-named)) (sulgrevad--lose "samhost there is of another version"))
@@ -230,10 +219,6 @@ One of a later version has no kind."
     (cond ((/= sulgrevad--messages (sulgrevad-note-number note)) (sulgrevad--lose "samhost there is of another version"))
           ((string-match-p sulgrevad--name-form name) (setf (sulgrevad-line-name sulgrevad--line) name))
           (t (message "The host's name for the session is none, and is not taken")))))
-
-(defun sulgrevad--note-told (told)
-  "Note what was TOLD, for an error that may come."
-  (setq sulgrevad--told (seq-take (cons told sulgrevad--told) sulgrevad-most-told)))
 
 (defun sulgrevad--lose (why)
   "The session is over here, because of WHY.

@@ -59,14 +59,13 @@
 WORDS is a function of the session's name.  TAKES-OVER says that it was
 another terminal's."
   (when sulgrevad--client (user-error "There is a session already"))
-  (setq sulgrevad--buffers nil sulgrevad--told nil sulgrevad--complaints nil
+  (setq sulgrevad--buffers nil sulgrevad--told nil sulgrevad--lines nil sulgrevad--complaints nil
         sulgrevad--hidden nil sulgrevad--answers nil sulgrevad--wishes nil sulgrevad--copies nil sulgrevad--ended-with nil
         sulgrevad--is-named nil sulgrevad--is-taken nil sulgrevad--folder default-directory)
   (let (line)
     (setq line (sulgrevad-line-make
                 command (lambda (event what) (when (eq line sulgrevad--line) (sulgrevad--hear event what))) takes-over)
           sulgrevad--line line
-          sulgrevad--lines nil
           sulgrevad--client (sulgrevad-line-client line))
     (condition-case why (sulgrevad-line-connect line (funcall words (sulgrevad-line-name line)) t)
       ((error quit) (setq sulgrevad--client nil sulgrevad--line nil)
