@@ -20,6 +20,7 @@
 
 (declare-function sulgrevad-mode "sulgrevad" (&optional arg))
 
+(defconst sulgrevad-most-runes 1000000 "How many runes a text has at most.")
 (defconst sulgrevad--gap-sign ?· "What stands for each rune that is not loaded.")
 (defconst sulgrevad-most-unsent 0.5 "After how many seconds an edit is sent that no command has made.")
 
@@ -40,7 +41,8 @@ A clone of it has its variables, and is no buffer of the file.")
 Where it is of no file any more: its tick when it was let go.")
 (defvar-local sulgrevad--has-drifted nil
   "Whether the client may not know all changes of the buffer.
-When the session is over: whether its text stands nowhere else.")
+Where it is but a text that has no room yet: its place, and how long it
+is.  When the session is over: whether its text stands nowhere else.")
 (defvar-local sulgrevad--host-changes nil "The step of undo for edits by the host, as of `prepare-change-group'.")
 ;; They outlive a change of the major mode.
 (dolist (name '(sulgrevad--tag sulgrevad--path sulgrevad--self sulgrevad--tick sulgrevad--has-drifted sulgrevad--host-changes
@@ -59,7 +61,7 @@ the first learns after them, the second before them.")
 
 (cl-defstruct (sulgrevad-file (:type list) (:copier nil))
   "How a file is, as `sulgrevad-client-file' has it."
-  is-known is-open is-locked is-unsaved len dot-start dot-end)
+  is-known is-open is-locked is-unsaved has-edits len dot-start dot-end)
 
 (defun sulgrevad--file (tag)
   "How the file TAG is."
@@ -184,22 +186,27 @@ It signals no error and no quit, since Emacs would not call it again."
 Another change, which no hook has reported, seldom leaves that as it is."
   (= (buffer-size) (+ (sulgrevad-file-len (sulgrevad--file sulgrevad--tag)) more)))
 
-(defun sulgrevad--hand-over (&optional whole)
+(defun sulgrevad--hand-over ()
   "Give the client what no hook has reported.
-With WHOLE look for it also where there is no sign of it.  It may signal
-`sulgrevad-no-memory': then it is to be called again."
+It may signal `sulgrevad-no-memory': then it is to be called again."
   (unless enable-multibyte-characters (set-buffer-multibyte t)) ; places are those of characters, not of bytes
-  (when (or (sulgrevad--waits) whole)
+  (unless (or (not (sulgrevad--waits))
+              (and (consp sulgrevad--has-drifted) (sulgrevad-file-has-edits (sulgrevad--file sulgrevad--tag)))) ; they make room
     (setq sulgrevad--has-drifted t)
-    (let ((why (pcase (sulgrevad--difference (sulgrevad--text) (sulgrevad--shown sulgrevad--tag))
-                 (`(,start ,end ,old-end) (sulgrevad--give start end old-end)))))
-      (when why
-        (sulgrevad--kill-text (sulgrevad--text))
-        (message "Sulgrevad: %s; the kill ring has the buffer's text" why)
-        (sulgrevad--put-back)))
-    (sulgrevad--hook-up)                ; Emacs takes all of them off where one of another fails
-    (setq sulgrevad--has-drifted nil
-          sulgrevad--tick (buffer-chars-modified-tick))))
+    (let ((waits nil))
+      (pcase (sulgrevad--difference (sulgrevad--text) (sulgrevad--shown sulgrevad--tag))
+        (`(,start ,end ,old-end)
+         (when-let ((why (sulgrevad--give start end old-end)))
+           ;; What goes takes up room until it has gone.  So a text that has room only in the place of another waits here for that.
+           (if (and (string-prefix-p "SAM_REFUSAL_TOO_LONG" why) (<= (buffer-size) sulgrevad-most-runes)
+                    (null (sulgrevad--give start start old-end)))
+               (setq waits (cons start (- end start)))
+             (sulgrevad--kill-text (sulgrevad--text))
+             (message "Sulgrevad: %s; the kill ring has the buffer's text" why)
+             (sulgrevad--put-back)))))
+      (sulgrevad--hook-up)
+      (setq sulgrevad--has-drifted waits
+            sulgrevad--tick (buffer-chars-modified-tick)))))
 
 ;;; What the host changes
 
@@ -248,12 +255,17 @@ Functions of others may change it meanwhile: then places move, and it
 drifts."
   (when-let ((buffer (and splices (sulgrevad--buffer-of (cadr (car splices))))))
     (with-current-buffer buffer
-      (let ((marked (cl-loop for (kind _ place count) in splices collect (list (copy-marker (1+ place)) kind place count))))
+      (let* ((start (car-safe sulgrevad--has-drifted))
+             (marked (cl-loop for (kind _ place count) in splices
+                              for at = (if (and start (< start place)) (+ place (cdr sulgrevad--has-drifted)) place)
+                              collect (list (copy-marker (1+ at)) kind place count))))
         (condition-case nil
             (pcase-dolist (`(,marker . ,splice) marked)
               (apply #'sulgrevad--take-one (1- marker) splice)
               (set-marker marker nil))
-          (error (when (sulgrevad--is-ours) (sulgrevad--put-back))))) ; a hook of another has failed
+          (error (when (sulgrevad--is-ours) ; a hook of another has failed
+                   (when sulgrevad--has-drifted (sulgrevad--kill-text (sulgrevad--text)))
+                   (sulgrevad--put-back)))))
       (when (sulgrevad--is-ours)
         (sulgrevad--check-tick)
         (unless (sulgrevad--is-as-long 0) (setq sulgrevad--has-drifted t))))))
@@ -261,15 +273,18 @@ drifts."
 (defun sulgrevad--take-one (at kind place count)
   "Make a splice of KIND in the buffer: AT is its place there.
 At the client it is PLACE; it is of COUNT runes."
-  (let ((end (+ at count)) (text (and (memq kind '(came filled)) (sulgrevad--shown sulgrevad--tag place (+ place count)))))
+  (let* ((start (or (car-safe sulgrevad--has-drifted) 0))
+         (mine (if (< place start (+ place count)) (sulgrevad--text start (+ start (cdr sulgrevad--has-drifted))) "")) ; it stays
+         (end (+ at count (length mine)))
+         (text (and (memq kind '(came filled)) (sulgrevad--shown sulgrevad--tag place (+ place count)))))
     (pcase kind
       ('came (sulgrevad--open-step)
              (sulgrevad--put at at text))
       ('went (sulgrevad--open-step)
              (let ((has-sign (sulgrevad--has-sign at end)))
-               (sulgrevad--put at end "")
+               (sulgrevad--put at end mine)
                (when has-sign (setq buffer-undo-list nil sulgrevad--host-changes nil)))) ; undo would put signs back
-      ('filled (let ((buffer-undo-list t)) (sulgrevad--put at end text)))
+      ('filled (let ((buffer-undo-list t)) (sulgrevad--put at end (concat text mine))))
       ('emptied (sulgrevad--let-go))))) ; its file is closed
 
 (defun sulgrevad--is-whole (tag)

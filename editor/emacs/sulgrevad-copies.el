@@ -180,7 +180,6 @@ When it is taken, undo takes it back, and it stays at PATH."
        (widen)
        (goto-char (1+ start))
        (delete-region (point) (1+ end))
-       (sulgrevad--pump)                ; what goes takes up room until it has gone
        (insert (substring text start to))))))
 
 (defun sulgrevad--recover (path)

@@ -418,10 +418,10 @@ static emacs_value describe(emacs_env *env, struct session *session, emacs_value
                 integer(env, state.tags));
 }
 
-/* How a file is, as a list: whether it is known, open, locked and unsaved; how many runes are shown; where its dot begins and ends. */
+/* How a file is: whether it is known, open, locked, unsaved, and has edits that wait; how many runes are shown; where its dot is. */
 static emacs_value file(emacs_env *env, struct session *session, emacs_value *words)
 {
-    uint16_t tag = tag_of(env, words[0]);
+    uint16_t tag = tag_of(env, words[0]), edited = 0;
     sam_file file;
     bool is_unsaved = false;
     uint32_t len = 0;
@@ -432,8 +432,9 @@ static emacs_value file(emacs_env *env, struct session *session, emacs_value *wo
         status = sam_client_len(&session->client, tag, &len);
     if (status != SAM_OK)
         return error_of(env, status);
+    bool has_edits = sam_client_next_waiting(&session->client, tag, &edited) == SAM_OK && edited == tag;
     return LIST(env, truth(env, file.is_known), truth(env, file.is_open), truth(env, file.is_locked), truth(env, is_unsaved),
-                integer(env, len), integer(env, file.dot_start), integer(env, file.dot_end));
+                truth(env, has_edits), integer(env, len), integer(env, file.dot_start), integer(env, file.dot_end));
 }
 
 static emacs_value name(emacs_env *env, struct session *session, emacs_value *words)

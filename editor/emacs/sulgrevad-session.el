@@ -111,10 +111,7 @@ undo: saved, they would be written nowhere."
 Where memory is short for that, an edit that was given before may have to
 act first, by which no buffer changes."
   (condition-case why (sulgrevad--each #'sulgrevad--hand-over)
-    (sulgrevad-no-memory
-     (unless (sulgrevad-state-is-acting (sulgrevad--state)) (signal (car why) (cdr why)))
-     (sulgrevad--go-on)
-     (sulgrevad--hand-over-all))))
+    (sulgrevad-no-memory (unless (sulgrevad-state-is-acting (sulgrevad--state)) (signal (car why) (cdr why))))))
 
 (defun sulgrevad--go-on ()
   "Have the client go on, and do as it told.

@@ -27,7 +27,6 @@
 (require 'sulgrevad-session)
 
 (defconst sulgrevad-version-offered 2 "The version of the protocol.")
-(defconst sulgrevad-most-runes 1000000 "How many runes a text has at most.")
 (defconst sulgrevad--is-folder 5 "The code of a path that is a folder's.")
 (defconst sulgrevad--replacing '((11 . "another program changed it") (12 . "it is there already"))
   "Codes of writes that would have replaced what stands in the file.")
@@ -394,7 +393,10 @@ where that would replace what another program has written."
   (unless (sulgrevad--is-ours) (user-error "The buffer is not that of a file of the session"))
   (let ((tag sulgrevad--tag))
     (when (sulgrevad--may-replace tag)
-      (sulgrevad--hand-over t)
+      (setq sulgrevad--has-drifted t)   ; perhaps a change has left no sign
+      (sulgrevad--pump)
+      (unless (and (sulgrevad--is-ours) (not (sulgrevad--waits)))
+        (user-error "%s is not written: the host can't have all of it yet" (buffer-name)))
       (sulgrevad--ask 'write tag)
       (setq sulgrevad--complaints (assq-delete-all tag sulgrevad--complaints))
       (cond ((not (sulgrevad--wait (lambda () (sulgrevad--is-answered tag))))

@@ -256,6 +256,29 @@
     (with-temp-buffer (check "elsewhere C-x C-f is Emacs' own" (eq (key-binding (kbd "C-x C-f")) #'find-file)))
     (sulgrevad-quit)))
 
+(defun check-room ()
+  "A text of which more changes than there is room for beside it stays, and is written."
+  (let* ((text (apply #'concat (cl-loop for line from 1 to 18000 collect (format "%048dx\n" line)))) (file (made "room.txt" text)))
+    (sulgrevad-start (list samhost) file)
+    (dolist (change (list (lambda () (upcase-region (point-min) (point-max)))
+                          (lambda () (insert (prog1 (reverse (buffer-string)) (erase-buffer))))
+                          (lambda () (insert (reverse (buffer-string))) (delete-region (point) (point-max)))
+                          (lambda () (while (search-forward "00000000" nil t) (replace-match "changed.")))))
+      (goto-char (point-min))
+      (let ((wanted (let ((text (sulgrevad--text)))
+                      (with-temp-buffer
+                        (insert text)
+                        (goto-char (point-min))
+                        (funcall change)
+                        (buffer-string)))))
+        (funcall change)
+        (let ((words (said (lambda () (run-hooks 'post-command-hook))))) (check "it is not refused" (null words) words))
+        (check "it stays" (equal (sulgrevad--text) wanted) (buffer-size))
+        (check "and the client has it" (equal (theirs) wanted) (length (theirs)))
+        (sulgrevad-save)
+        (check "and the disk" (equal (disk file) wanted))))
+    (sulgrevad-quit)))
+
 (defun check-wishes ()
   "A file that samhost --open wishes shown comes up, and who waits for it hears of its end."
   (sulgrevad-start (list samhost) (made "p.txt" "p\n"))
@@ -373,5 +396,5 @@
 
 (begin (pop command-line-args-left))
 (setq samhost (pop command-line-args-left))
-(run '(check-replacing check-recovery check-hidden check-one-buffer check-left check-visit check-anew check-paths check-wishes
+(run '(check-room check-replacing check-recovery check-hidden check-one-buffer check-left check-visit check-anew check-paths check-wishes
        check-keys check-steps check-sources))
