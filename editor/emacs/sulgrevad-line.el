@@ -33,9 +33,9 @@
 
 (cl-defstruct (sulgrevad-line (:constructor sulgrevad-line--make) (:copier nil))
   "A line to a session that stays."
-  command                  ; a function that makes a list of words of others, which stand after it: the host's command
+  command                  ; the words of the host's command, a shell's in front: it seeks a program from the folder, as Emacs doesn't
   receive                  ; a function that is told what comes: see `sulgrevad-line-make'
-  client name              ; the library's, and the session's name
+  client name folder       ; the library's, the session's name, and where the command runs
   process errors tty       ; the newest connection, its standard error, and its terminal where it has one
   (unfed "")               ; what came, and for which there was no memory
   (told "") last-told      ; of standard error: a line that has begun, and the last one
@@ -64,9 +64,9 @@ error; `lost' and why, once no connection comes any more.
 With TAKES-OVER the session was another terminal's."
   (let ((client (sulgrevad-client-make takes-over (sulgrevad-line--now))))
     (sulgrevad-line--make
-     :command (if (listp command) (lambda (words) (append command words))
-                (lambda (words) (append (list "/bin/sh" "-c" (concat command " \"$@\"") "sh") words)))
-     :receive receive :client client
+     :command (if (listp command) (append '("/bin/sh" "-c" "exec \"$@\"" "sh") command)
+                (list "/bin/sh" "-c" (concat command " \"$@\"") "sh"))
+     :receive receive :client client :folder (if (file-remote-p default-directory) temporary-file-directory default-directory)
      :name (mapconcat (lambda (byte) (format "%02x" byte)) (seq-take (sulgrevad-client-id client) 8) ""))))
 
 ;;; Connections
@@ -78,9 +78,10 @@ that its programs may ask something."
   (sulgrevad-line--drop line)
   (setf (sulgrevad-line-unfed line) "")
   (condition-case why
-      (progn (sulgrevad-line--run line (funcall (sulgrevad-line-command line) words) in-front)
+      (progn (sulgrevad-line--run line (append (sulgrevad-line-command line) words) in-front)
              (sulgrevad-client-connected (sulgrevad-line-client line) (sulgrevad-line--now)))
     (error (sulgrevad-line--drop line)
+           (when (sulgrevad-line-errors line) (delete-process (sulgrevad-line-errors line))) ; no program ends it
            (sulgrevad-client-not-connected (sulgrevad-line-client line) (sulgrevad-line--now))
            (unless (sulgrevad-state-is-known (sulgrevad-line-state line)) (signal (car why) (cdr why)))))
   (sulgrevad-line-push line))
@@ -101,7 +102,8 @@ With IN-FRONT it gets a terminal."
           ;; A process leads a session of its own, so the first terminal that it opens is the one on which its programs ask.  It stays open,
           ;; since Emacs reads nothing more of a terminal that nobody has open.
           words (append (list "/bin/sh" "-c" "exec 9<>\"$0\"; exec \"$@\"" (process-tty-name (sulgrevad-line-tty line))) words)))
-  (let ((default-directory (if (file-remote-p default-directory) temporary-file-directory default-directory))
+  (let ((default-directory (if (file-accessible-directory-p (sulgrevad-line-folder line)) (sulgrevad-line-folder line)
+                             temporary-file-directory))
         (process-environment (append (unless in-front '("SSH_ASKPASS_REQUIRE=never")) process-environment))) ; nor in a window
     (setf (sulgrevad-line-errors line)
           (make-pipe-process :name "samhost-errors" :noquery t :coding 'utf-8-unix :sentinel #'ignore

@@ -46,6 +46,26 @@
     (same "and the client has the same")
     (sulgrevad-quit)))
 
+(defun check-folder ()
+  "A command that is seen from a folder is run there again, wherever the user has gone."
+  (let ((file (made "folder.txt" "text\n")) (near (path "near")))
+    (make-symbolic-link samhost near)
+    (sulgrevad-start (list "./near") file)
+    (with-temp-buffer
+      (setq default-directory "/nowhere/")
+      (signal-process (process) 'KILL)
+      (wait-for (lambda () (sulgrevad-line-is-broken sulgrevad--line)))
+      (check "the line comes back" (mend-line))
+      (let ((before (length (process-list))) (temporary-file-directory "/nowhere/"))
+        (setf (sulgrevad-line-folder sulgrevad--line) "/nowhere/") ; no process begins there
+        (dotimes (_ 5) (sulgrevad-line-connect-again sulgrevad--line))
+        (check "none comes where no program is run" (sulgrevad-line-is-broken sulgrevad--line))
+        (setf (sulgrevad-line-folder sulgrevad--line) room)
+        (check "it comes back after others failed" (mend-line))
+        (check "which have left nothing" (= before (length (process-list))) before (process-list))))
+    (delete-file near)
+    (sulgrevad-quit)))
+
 (defun check-many-breaks ()
   "A line that breaks again and again loses nothing."
   (let ((file (made "m.txt" "")) (long (make-string 3000 ?m)))
@@ -424,5 +444,5 @@ exec \"$@\"" "sh") (relayed))))
   (let ((words command-line-args-left))
     (setq command-line-args-left nil)
     (if (equal what "long") (run '(check-long check-places check-signs) (append words (list samhost)))
-      (run '(check-breaks check-many-breaks check-random check-stalled check-take check-failed-write check-numbers check-missing
-             check-other-versions check-hostile check-passwords check-no-room)))))
+      (run '(check-breaks check-folder check-many-breaks check-random check-stalled check-take check-failed-write check-numbers
+             check-missing check-other-versions check-hostile check-passwords check-no-room)))))
