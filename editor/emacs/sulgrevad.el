@@ -271,15 +271,19 @@ argument, read a file name of this machine."
     (sulgrevad--pump)))
 
 (defun sulgrevad--show-wished ()
-  "Show the files that somebody wishes shown, as samhost --open does."
-  (when (and sulgrevad--wishes sulgrevad--client (not (sulgrevad--is-late)) (not (active-minibuffer-window)))
-    (pcase-let ((`(,tag . ,line) (pop sulgrevad--wishes)))
-      (unless (sulgrevad-file-is-known (sulgrevad--file tag)) (sulgrevad--ask 'offer-version 0 0 sulgrevad-version-offered))
-      (when (sulgrevad--wait (lambda () (sulgrevad--is-named tag)))
-        (pop-to-buffer (sulgrevad--show tag))
-        (when (< 0 line)
-          (goto-char (point-min))
-          (forward-line (1- line)))))))
+  "Show a file that somebody wishes shown, as samhost --open does.
+Where that can't be now, it is tried again."
+  (cond ((not (and sulgrevad--wishes sulgrevad--client)))
+        ((or (sulgrevad--is-late) (active-minibuffer-window))
+         (run-with-timer sulgrevad-rest nil #'run-with-idle-timer sulgrevad-rest nil #'sulgrevad--show-wished))
+        (t (pcase-let ((`(,tag . ,line) (pop sulgrevad--wishes)))
+             (with-local-quit           ; a timer has none
+               (unless (sulgrevad-file-is-known (sulgrevad--file tag)) (sulgrevad--ask 'offer-version 0 0 sulgrevad-version-offered))
+               (when (sulgrevad--wait (lambda () (sulgrevad--is-named tag)))
+                 (pop-to-buffer (sulgrevad--show tag))
+                 (when (< 0 line)
+                   (goto-char (point-min))
+                   (forward-line (1- line)))))))))
 
 (defun sulgrevad--revert (_ignore-auto noconfirm)
   "Read the buffer's file anew, after a question unless NOCONFIRM.

@@ -294,6 +294,22 @@
     (check "who waits hears that it was written" (wait-for (lambda () (eq (process-status asks) 'exit))))
     (check "and that all is well" (eql 0 (process-exit-status asks)) (process-exit-status asks))
     (check "it is" (equal (disk file) "1\ntwo2\n3\n") (disk file)))
+  (cancel-function-timers #'sulgrevad--show-wished) ; a batch Emacs is never idle
+  (call-process samhost nil nil nil "--open" (made "later.txt" "later\n"))
+  (check "another wish comes" (wait-for (lambda () sulgrevad--wishes)))
+  (cl-letf (((symbol-function 'active-minibuffer-window) #'always))
+    (cancel-function-timers #'sulgrevad--show-wished)
+    (sulgrevad--show-wished)
+    (check "nothing comes up while the user is asked" sulgrevad--wishes))
+  (check "it is shown later" (wait-for (lambda () (memq #'sulgrevad--show-wished (mapcar #'timer--function timer-idle-list)))))
+  (signal-process (process) 'STOP)
+  (cl-letf (((symbol-function 'sulgrevad--tell-of-waiting) (lambda () (setq quit-flag t))))
+    (check "C-g stops who waits for it"
+           (with-timeout (30 nil)
+             (let ((inhibit-quit t) (sulgrevad-patience 100)) ; as in a timer
+               (sulgrevad--show-wished)
+               (prog1 quit-flag (setq quit-flag nil))))))
+  (signal-process (process) 'CONT)
   (sulgrevad-quit))
 
 (defun check-keys ()
