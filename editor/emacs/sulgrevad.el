@@ -211,7 +211,7 @@ Its hooks run where no file is visited: that of this path is elsewhere."
 (defun sulgrevad--question (kind path &optional tag)
   "Ask the host by a request of KIND about PATH, or the file TAG.
 Return its answer."
-  (let* ((bytes (decode-coding-string (encode-coding-string path 'utf-8) 'latin-1))
+  (let* ((bytes (decode-coding-string (encode-coding-string path 'utf-8-unix) 'latin-1-unix))
          (answer (list (sulgrevad-client-begin sulgrevad--client kind (or tag 0) bytes (sulgrevad-line--now)))))
     (push answer sulgrevad--answers)
     (unwind-protect
@@ -346,7 +346,7 @@ NAMES-AT gives the names that complete a path, without their folder."
 (defun sulgrevad--names-at (path)
   "The names at the host that complete PATH; those of folders end in a slash."
   (let ((answer (and sulgrevad--client (not (sulgrevad--is-late)) (sulgrevad--question 'complete path))))
-    (and answer (split-string (decode-coding-string (sulgrevad-note-path answer) 'utf-8) "\n" t))))
+    (and answer (split-string (decode-coding-string (sulgrevad-note-path answer) 'utf-8-unix) "\n" t))))
 
 ;;; Command lines
 
