@@ -64,8 +64,8 @@ Return `written'; `there' where another is there; nil where it can't be."
 It is new, but for one in which the text of the file TAG was kept before:
 a new one takes its place."
   (let* ((inhibit-quit t) (before (assq tag sulgrevad--copies)) (path (sulgrevad--keep-new name text)))
-    (setq sulgrevad--copies (delq before sulgrevad--copies))
     (when (and before path)             ; the old one stays until the new one is whole
+      (setq sulgrevad--copies (delq before sulgrevad--copies))
       (ignore-errors (rename-file path (cdr before) t)
                      (setq path (cdr before))))
     path))

@@ -92,14 +92,15 @@ undo: saved, they would be written nowhere."
   (unless (or sulgrevad--is-pumping (null sulgrevad--client))
     (condition-case why
         (let ((sulgrevad--is-pumping t))
-          (while (and sulgrevad--client (progn (sulgrevad--hand-over-all) sulgrevad--client)
-                      (or (sulgrevad--go-on) (and sulgrevad--client (sulgrevad--drop)))))
-          (when sulgrevad--client
-            (let ((is-idle (sulgrevad--is-idle)))
-              (sulgrevad--each (lambda () (sulgrevad--update is-idle))))
-            (sulgrevad-client-expect sulgrevad--client sulgrevad--is-waiting (sulgrevad-line--now))
-            (sulgrevad-line-push sulgrevad--line)
-            (sulgrevad--keep-meanwhile)))
+          (save-match-data              ; it may be a timer that calls
+            (while (and sulgrevad--client (progn (sulgrevad--hand-over-all) sulgrevad--client)
+                        (or (sulgrevad--go-on) (and sulgrevad--client (sulgrevad--drop)))))
+            (when sulgrevad--client
+              (let ((is-idle (sulgrevad--is-idle)))
+                (sulgrevad--each (lambda () (sulgrevad--update is-idle))))
+              (sulgrevad-client-expect sulgrevad--client sulgrevad--is-waiting (sulgrevad-line--now))
+              (sulgrevad-line-push sulgrevad--line)
+              (sulgrevad--keep-meanwhile))))
       (sulgrevad-no-memory (message "Sulgrevad: %s" (cadr why))
                            (sulgrevad-line-push sulgrevad--line)
                            (sulgrevad-line-schedule sulgrevad--line sulgrevad-line-retry))

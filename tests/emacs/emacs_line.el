@@ -34,7 +34,16 @@
       (check "again and again in one file"
              (and (wait-for (lambda () (equal (disk (path "b.txt.sam-here")) "before dead more text\n")))
                   (equal (directory-files room nil "sam-here") '("b.txt.sam-here")))
-             (directory-files room nil "sam-here")))
+             (directory-files room nil "sam-here"))
+      (let* ((tries 0) (fail (lambda (&rest _) (ignore (setq tries (1+ tries))))))
+        (advice-add 'sulgrevad--keep-new :override fail) ; as a full disk
+        (check "it is tried where the disk is full" (wait-for (lambda () (< 0 tries))))
+        (advice-remove 'sulgrevad--keep-new fail))
+      (check "the text from before stays then" (equal (disk (path "b.txt.sam-here")) "before dead more text\n"))
+      (setq sulgrevad--copied-at 0)
+      (string-match "more" "no more")
+      (sulgrevad--pump)                 ; as a timer does
+      (check "what was found before is known" (equal (match-beginning 0) 3) (match-data)))
     (check "the line is back" (mend-line))
     (check "then the file is written as it was when that was asked for"
            (wait-for (lambda () (equal (disk file) "before dead text\n"))) (disk file))
