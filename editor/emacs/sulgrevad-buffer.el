@@ -159,8 +159,10 @@ that can't be, or nil.  It may signal `sulgrevad-no-memory'."
       (wrong-type-argument "the buffer has what is no Unicode text"))))
 
 (defun sulgrevad--check-tick ()
-  "Note a change that `after-change-functions' has not reported."
-  (unless (eql sulgrevad--tick (buffer-chars-modified-tick)) (setq sulgrevad--has-drifted t)))
+  "Note a change that `after-change-functions' has not reported.
+Emacs takes all hooks off where one of another fails."
+  (unless (and (eql sulgrevad--tick (buffer-chars-modified-tick)) (memq #'sulgrevad--before-change before-change-functions))
+    (setq sulgrevad--has-drifted t)))
 
 (defun sulgrevad--before-change (&rest _)
   "Note that the buffer is about to change."
