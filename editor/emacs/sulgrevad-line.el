@@ -190,12 +190,12 @@ It is a second at most, since the mode line has the time."
 
 (defun sulgrevad-line-schedule (line &optional seconds)
   "Have LINE go on when something is due, in so many SECONDS at the latest."
-  (let* ((due (sulgrevad-line--delay line)) (delay (if (and due seconds) (min due seconds) (or due seconds)))
-         (timer (sulgrevad-line-timer line)))
-    (when (and delay (null (sulgrevad-line-why line))
-               (or (null timer) (< (+ delay (float-time)) (float-time (timer--time timer))))) ; a later one puts off none
-      (when timer (cancel-timer timer))
-      (setf (sulgrevad-line-timer line) (run-with-timer (max 0.01 delay) nil #'sulgrevad-line--on-time line)))))
+  (let* ((timer (sulgrevad-line-timer line)) (time (and timer (float-time (timer--time timer)))))
+    (unless (and seconds time (<= time (+ seconds (float-time)))) ; so each of many edits costs no look at what is due
+      (let* ((due (sulgrevad-line--delay line)) (delay (if (and due seconds) (min due seconds) (or due seconds))))
+        (when (and delay (null (sulgrevad-line-why line)) (or (null time) (< (+ delay (float-time)) time))) ; a later one puts off none
+          (when timer (cancel-timer timer))
+          (setf (sulgrevad-line-timer line) (run-with-timer (max 0.01 delay) nil #'sulgrevad-line--on-time line)))))))
 
 ;;; Bytes
 
