@@ -4,9 +4,14 @@ use crate::{Client, ClientEvent, Error, LineState, LinkFault, Splice, Tick};
 use std::fmt;
 use std::io::{self, ErrorKind, Read, Write};
 use std::net::{Shutdown, TcpStream};
+#[cfg(unix)]
+use std::os::unix::net::UnixStream;
+#[cfg(target_os = "linux")]
+use std::os::{raw::c_int, unix::io::AsRawFd};
 use std::process::ChildStdin;
 use std::sync::mpsc::{sync_channel, Receiver, SyncSender};
-use std::thread;
+use std::sync::{Arc, Mutex, TryLockError};
+use std::thread::{self, JoinHandle};
 use std::time::{Duration, Instant};
 
 /// Bytes that are moved together.
@@ -15,6 +20,8 @@ const PIECE: usize = 65_536;
 const MOST_WAITING: usize = 16;
 /// After so long what had no memory is tried again.
 const SHORT: Duration = Duration::from_millis(100);
+/// After so long a connection that had no room is tried again, and a socket says that it has none.
+const FULL: Duration = Duration::from_millis(10);
 
 /// Why a session is over.
 #[derive(Clone, Copy, Debug, PartialEq, Eq)]
@@ -38,28 +45,57 @@ impl fmt::Display for SessionError {
 
 impl std::error::Error for SessionError {}
 
-/// The half of a connection that is written.
+/// The half of a connection that is written. A write that finds no room fails by `WouldBlock` or `TimedOut`: the session goes on meanwhile,
+/// and tries again. Any other failure ends the connection.
 pub trait WriteHalf: Write {
+    /// Has such a write fail soon. It is called once, before the first write.
+    fn limit_writes(&mut self) -> io::Result<()> {
+        Ok(())
+    }
+
     /// Ends the connection for its other half, too, so that a read there returns. If dropping this half does so there is nothing to do.
     fn hang_up(&mut self) {}
 }
 
 impl WriteHalf for TcpStream {
+    fn limit_writes(&mut self) -> io::Result<()> {
+        self.set_write_timeout(Some(FULL))
+    }
+
     fn hang_up(&mut self) {
         let _ = self.shutdown(Shutdown::Both); // it may be over already
     }
 }
 
 #[cfg(unix)]
-impl WriteHalf for std::os::unix::net::UnixStream {
+impl WriteHalf for UnixStream {
+    fn limit_writes(&mut self) -> io::Result<()> {
+        self.set_write_timeout(Some(FULL))
+    }
+
     fn hang_up(&mut self) {
         let _ = self.shutdown(Shutdown::Both);
     }
 }
 
-impl WriteHalf for ChildStdin {}
+impl WriteHalf for ChildStdin {
+    /// Has no write wait. The child's end of the pipe stays as it is.
+    #[cfg(target_os = "linux")]
+    fn limit_writes(&mut self) -> io::Result<()> {
+        const F_SETFL: c_int = 4;
+        const O_NONBLOCK: c_int = 0o4000;
+        extern "C" {
+            fn fcntl(file: c_int, command: c_int, ...) -> c_int;
+        }
+        match unsafe { fcntl(self.as_raw_fd(), F_SETFL, O_NONBLOCK) } {
+            0 => Ok(()),
+            _ => Err(io::Error::last_os_error()),
+        }
+    }
+}
 
 enum Came {
+    Made(u64),
     Piece(u64, Vec<u8>),
     End(u64),
     Woken,
@@ -83,10 +119,10 @@ impl Waker {
 }
 
 /// A client that connects again by itself. `open` makes a connection, as `TcpStream::connect` does: its two halves, or an error if there is
-/// none now. A thread reads each connection, so the session waits for the host and for a time limit alike.
+/// none now. A thread makes and reads each connection, so the session waits for the host and for a time limit alike.
 ///
-/// Give `open` and the half that is written a limit (`connect_timeout`, `set_write_timeout`): meanwhile the session does nothing else. A
-/// write that fails ends the connection, and loses nothing.
+/// Neither a connection that is long in coming nor one that takes nothing holds up the session, and one that ends loses nothing. Before the
+/// program ends it waits until [`Client::has_all`] is true: what has not come to the host is lost with the session.
 ///
 /// ```no_run
 /// use sulgrevad::{Event, Session};
@@ -107,36 +143,42 @@ impl Waker {
 /// # #[allow(unreachable_code)]
 /// # Ok::<(), Box<dyn std::error::Error>>(())
 /// ```
-pub struct Session<O, W: WriteHalf> {
+pub struct Session<O, R, W: WriteHalf> {
     /// The client. Edits and requests go to it: `replace`, `ask`, `put_note`; then go on.
     pub client: Client,
-    open: O,
+    open: Arc<Mutex<O>>,
+    making: Option<JoinHandle<io::Result<(R, W)>>>, // the newest connection
     writer: Option<W>,
     attempt: u64,
+    unsent: Vec<u8>, // of this connection, which had no room for them
     began: Instant,
     is_short: bool,
+    is_full: bool,
     sender: SyncSender<Came>,
     came: Receiver<Came>,
 }
 
-impl<O, R, W> Session<O, W>
+impl<O, R, W> Session<O, R, W>
 where
-    O: FnMut() -> io::Result<(R, W)>,
+    O: FnMut() -> io::Result<(R, W)> + Send + 'static,
     R: Read + Send + 'static,
-    W: WriteHalf,
+    W: WriteHalf + Send + 'static,
 {
     /// Makes a session, whose first connection is made as it goes on. The id and `take_over` are those of [`Client::new`]. Its only error is
     /// `NoMemory`.
-    pub fn new(id: [u8; 16], take_over: bool, open: O) -> Result<Session<O, W>, Error> {
+    pub fn new(id: [u8; 16], take_over: bool, open: O) -> Result<Session<O, R, W>, Error> {
         let (sender, came) = sync_channel(MOST_WAITING);
         let (client, began) = (Client::new(id, take_over, 0)?, Instant::now());
         Ok(Session {
             client,
-            open,
+            open: Arc::new(Mutex::new(open)),
+            making: None,
             writer: None,
             attempt: 0,
+            unsent: Vec::new(),
             began,
             is_short: false,
+            is_full: false,
             sender,
             came,
         })
@@ -161,6 +203,7 @@ where
         while !has_told {
             let left = limit.saturating_sub(began.elapsed());
             match self.came.recv_timeout(self.rest(left)) {
+                Ok(Came::Made(attempt)) => self.take_halves(attempt),
                 Ok(Came::Piece(attempt, bytes)) => self.receive(attempt, &bytes),
                 Ok(Came::End(attempt)) => self.end(attempt),
                 Ok(Came::Woken) => return self.move_all(&mut tell).map(|_| ()),
@@ -178,7 +221,8 @@ where
         } else {
             self.client.due_in(self.now()).map(Duration::from_millis)
         };
-        due.map_or(limit, |left| left.min(limit))
+        let room = self.is_full.then_some(FULL);
+        [due, room].into_iter().flatten().fold(limit, Duration::min)
     }
 
     /// Moves all that can move. Returns whether something was told.
@@ -229,25 +273,45 @@ where
         }
     }
 
+    /// Begins a connection, which a thread makes.
     fn connect(&mut self) -> Result<(), SessionError> {
         self.hang_up();
-        let (reader, writer) = match (self.open)() {
-            Ok(halves) => halves,
-            Err(_) => {
-                self.client.not_connected(self.now());
-                return Ok(());
-            }
-        };
         self.attempt = self.client.connected(self.now()).map_err(SessionError::Stopped)?;
-        self.writer = Some(writer);
-        let (attempt, sender) = (self.attempt, self.sender.clone());
-        if thread::Builder::new().spawn(move || read(reader, attempt, &sender)).is_err() {
-            self.end(self.attempt);
+        let (attempt, sender, open) = (self.attempt, self.sender.clone(), Arc::clone(&self.open));
+        let making = thread::Builder::new().spawn(move || {
+            let halves = match open.try_lock() {
+                Ok(mut open) => open(),
+                Err(TryLockError::Poisoned(open)) => (open.into_inner())(),
+                Err(TryLockError::WouldBlock) => Err(ErrorKind::WouldBlock.into()), // the thread of an older connection is still at it
+            };
+            let _ = sender.send(Came::Made(attempt));
+            halves
+        });
+        match making {
+            Ok(making) => self.making = Some(making),
+            Err(_) => self.end(attempt),
         }
         Ok(())
     }
 
+    /// Takes the halves of a connection that was made, and reads one of them by a thread.
+    fn take_halves(&mut self, attempt: u64) {
+        if attempt != self.attempt {
+            return; // it was given up
+        }
+        if let Some(Ok(Ok((reader, mut writer)))) = self.making.take().map(JoinHandle::join) {
+            let (sender, is_limited) = (self.sender.clone(), writer.limit_writes().is_ok());
+            self.writer = Some(writer);
+            if is_limited && thread::Builder::new().spawn(move || read(reader, attempt, &sender)).is_ok() {
+                return;
+            }
+        }
+        self.end(attempt);
+    }
+
     fn hang_up(&mut self) {
+        self.unsent.clear(); // which the next connection brings, as all that is not acknowledged
+        self.making = None;
         if let Some(mut writer) = self.writer.take() {
             writer.hang_up();
         }
@@ -268,23 +332,46 @@ where
     }
 
     fn send(&mut self) {
-        let mut bytes = [0; PIECE];
+        self.is_full = false;
         while let Some(writer) = &mut self.writer {
-            match self.client.take_out(self.attempt, &mut bytes) {
-                Ok(0) => return,
-                Ok(count) if writer.write_all(&bytes[..count]).and_then(|()| writer.flush()).is_ok() => {}
-                _ => self.end(self.attempt),
+            if let Err(why) = write(writer, &mut self.unsent) {
+                self.is_full = matches!(why.kind(), ErrorKind::WouldBlock | ErrorKind::TimedOut);
+                if !self.is_full {
+                    self.end(self.attempt);
+                }
+                return;
+            }
+            self.unsent.resize(PIECE, 0);
+            match self.client.take_out(self.attempt, &mut self.unsent) {
+                Ok(count) => self.unsent.truncate(count),
+                Err(_) => return self.end(self.attempt),
+            }
+            if self.unsent.is_empty() {
+                return;
             }
         }
     }
 }
 
-impl<O, W: WriteHalf> Drop for Session<O, W> {
+impl<O, R, W: WriteHalf> Drop for Session<O, R, W> {
     fn drop(&mut self) {
         if let Some(writer) = &mut self.writer {
             writer.hang_up();
         }
     }
+}
+
+/// Writes bytes, and takes out those that are written.
+fn write(writer: &mut impl Write, bytes: &mut Vec<u8>) -> io::Result<()> {
+    while !bytes.is_empty() {
+        match writer.write(bytes) {
+            Ok(0) => return Err(ErrorKind::WriteZero.into()),
+            Ok(count) => drop(bytes.drain(..count)),
+            Err(why) if why.kind() == ErrorKind::Interrupted => {}
+            Err(why) => return Err(why),
+        }
+    }
+    writer.flush()
 }
 
 /// Reads a connection until it is over, or the session is.

@@ -1,18 +1,27 @@
 //! A session over halves of connections: its connections break at any byte, and what its user did comes to the host once and in order.
 
+use std::env;
 use std::io::{self, Read, Write};
+use std::net::{TcpListener, TcpStream};
 use std::os::unix::net::UnixStream;
-use std::sync::{Arc, Mutex};
+use std::process::{ChildStdin, Command, Stdio};
+use std::sync::{mpsc, Arc, Mutex};
 use std::thread;
 use std::time::{Duration, Instant};
 use sulgrevad::{
-    read_hello, write_refusal, ClientEvent, Event, Host, Link, LinkFault, NoteKind, Role, Session, SessionError, SpliceKind, StreamFault,
+    read_hello, write_refusal, Client, ClientEvent, Event, Host, LineState, Link, LinkFault, NoteKind, Role, Session, SessionError,
+    SpliceKind, StreamFault, WriteHalf,
 };
 
 const ID: [u8; 16] = *b"a session's name";
 /// Bytes that each side sends at least.
 const LEAST: usize = 150;
 const LIMIT: Duration = Duration::from_secs(100);
+const SOON: Duration = Duration::from_millis(30);
+/// Notes of 4,096 bytes: more than all on the way to a host has room for.
+const NOTES: u8 = 250;
+/// A stack for which no machine has room.
+const NO_ROOM: &str = "140737488355328";
 
 /// A host, its end of the link, and after how many bytes each way the next connections are cut.
 struct Far {
@@ -20,6 +29,7 @@ struct Far {
     link: Link,
     limits: Vec<(usize, usize)>,
     count: usize,
+    notes: Vec<Vec<u8>>,
 }
 
 impl Far {
@@ -31,6 +41,7 @@ impl Far {
             link: Link::new(Role::Host, ID).unwrap(),
             limits,
             count: 0,
+            notes: Vec::new(),
         }))
     }
 
@@ -56,10 +67,12 @@ impl Far {
         self.link.feed(attempt, piece)?;
         loop {
             let count = self.link.take_in(&mut bytes);
-            if count == 0 {
-                break;
-            }
             self.host.feed(&bytes[..count])?;
+            match self.link.next_note() {
+                Some(note) => self.notes.push(note),
+                None if count == 0 => break,
+                None => {}
+            }
         }
         for piece in self.host.take_out() {
             self.link.put(&piece)?;
@@ -218,4 +231,162 @@ fn a_session_waits_so_long_or_until_it_is_woken() {
     session.go_on(LIMIT, |_, _, _| {}).unwrap();
     waking.join().unwrap();
     assert!(began.elapsed() < LIMIT);
+}
+
+/// Does what may hang, and says so if it does.
+fn in_time(work: impl FnOnce() + Send + 'static) {
+    let (done, ends) = mpsc::channel();
+    let working = thread::spawn(move || {
+        work();
+        done.send(()).unwrap();
+    });
+    assert_ne!(ends.recv_timeout(LIMIT), Err(mpsc::RecvTimeoutError::Timeout), "it hangs");
+    working.join().unwrap();
+}
+
+/// Goes on until something holds.
+fn go_on_until<O, R, W>(session: &mut Session<O, R, W>, holds: impl Fn(&Client) -> bool)
+where
+    O: FnMut() -> io::Result<(R, W)> + Send + 'static,
+    R: Read + Send + 'static,
+    W: WriteHalf + Send + 'static,
+{
+    let began = Instant::now();
+    while !holds(&session.client) {
+        assert!(began.elapsed() < LIMIT);
+        session.go_on(SOON, |_, _, _| {}).unwrap();
+    }
+}
+
+/// Opens a text, over connections that are made so, while the host takes nothing for a while.
+fn goes_on_beside_a_full_connection<W: WriteHalf + Send + 'static>(
+    mut open: impl FnMut(&Arc<Mutex<Far>>) -> io::Result<(UnixStream, W)> + Send + 'static,
+) {
+    let far = Far::new("tea\n", Vec::new());
+    let opened = Arc::clone(&far);
+    let mut session = Session::new(ID, false, move || open(&opened)).unwrap();
+    for event in [Event::OfferVersion(2), Event::Open(1), Event::Load(1, 0, 100)] {
+        session.client.ask(event).unwrap();
+    }
+    go_on_until(&mut session, |client| client.text(1, 0).as_deref() == Some("tea\n"));
+    let held = far.lock().unwrap();
+    for number in 0..NOTES {
+        session.client.put_note(&[number; 4096], session.now()).unwrap();
+    }
+    for word in ["one ", "two "] {
+        session.go_on(SOON, |_, _, _| {}).unwrap();
+        session.client.replace(1, 0, 0, word).unwrap();
+    }
+    assert!(!session.client.has_all());
+    drop(held);
+    go_on_until(&mut session, Client::has_all);
+    let far = far.lock().unwrap();
+    assert_eq!(far.host.text(1).as_deref(), Some("two one tea\n"));
+    assert!(far
+        .notes
+        .iter()
+        .map(|note| (note[0], note.len()))
+        .eq((0..NOTES).map(|number| (number, 4096))));
+    assert_eq!(far.count, 1);
+}
+
+#[test]
+fn a_full_socket_holds_up_nothing() {
+    in_time(|| goes_on_beside_a_full_connection(Far::connect));
+}
+
+#[test]
+fn a_write_that_finds_no_room_by_tcp_fails_soon() {
+    in_time(|| {
+        let listener = TcpListener::bind("127.0.0.1:0").unwrap();
+        let mut writer = TcpStream::connect(listener.local_addr().unwrap()).unwrap();
+        writer.limit_writes().unwrap();
+        let why = (0..).find_map(|_| writer.write(&[0; 65_536]).err()).unwrap();
+        assert_eq!(why.kind(), io::ErrorKind::WouldBlock);
+    });
+}
+
+/// The standard input of a child whose output goes on to the host, as of ssh.
+fn by_child(far: &Arc<Mutex<Far>>) -> io::Result<(UnixStream, ChildStdin)> {
+    let (reader, mut end) = Far::connect(far)?;
+    let mut child = Command::new("cat").stdin(Stdio::piped()).stdout(Stdio::piped()).spawn()?;
+    let (writer, mut output) = (child.stdin.take().unwrap(), child.stdout.take().unwrap());
+    thread::spawn(move || {
+        let _ = io::copy(&mut output, &mut end);
+        child.wait()
+    });
+    Ok((reader, writer))
+}
+
+#[test]
+fn a_child_that_reads_nothing_holds_up_nothing() {
+    in_time(|| goes_on_beside_a_full_connection(by_child));
+}
+
+#[test]
+fn a_connection_that_takes_long_holds_up_nothing() {
+    in_time(|| {
+        let far = Far::new("tea\n", Vec::new());
+        let opened = Arc::clone(&far);
+        let (answer, answered) = mpsc::channel();
+        let mut session = Session::new(ID, false, move || {
+            answered.recv().unwrap();
+            Far::connect(&opened)
+        })
+        .unwrap();
+        session.client.ask(Event::OfferVersion(2)).unwrap();
+        let task = session.client.begin(NoteKind::Open, 0, b"a", 0).unwrap();
+        for _ in 0..3 {
+            session.go_on(SOON, |_, _, _| {}).unwrap();
+        }
+        assert_eq!((session.client.describe(session.now()).state, task), (LineState::Connecting, 1));
+        answer.send(()).unwrap();
+        go_on_until(&mut session, Client::has_all);
+        assert_eq!(far.lock().unwrap().notes, [b"\x01\0\0\0\x01\0\x01a"]);
+    });
+}
+
+#[test]
+fn a_limit_of_any_length_ends_by_a_wake() {
+    let mut session = Session::new(ID, false, || -> io::Result<(UnixStream, UnixStream)> {
+        Err(io::ErrorKind::NotFound.into())
+    })
+    .unwrap();
+    session.waker().wake();
+    session.go_on(Duration::MAX, |_, event, _| panic!("{event:?}")).unwrap();
+}
+
+#[test]
+fn what_the_program_expects_stays() {
+    let far = Far::new("tea\n", Vec::new());
+    let mut session = Session::new(ID, false, move || Far::connect(&far)).unwrap();
+    session.client.ask(Event::OfferVersion(2)).unwrap();
+    go_on_until(&mut session, |client| client.has_all() && client.file(1).is_known);
+    assert_eq!(session.client.due_in(session.now()), None);
+    session.client.expect(true, session.now());
+    session.go_on(SOON, |_, event, _| panic!("{event:?}")).unwrap();
+    assert_ne!(session.client.due_in(session.now()), None);
+}
+
+/// Runs itself again with stacks for which no machine has room, so that no thread can be made.
+#[test]
+fn a_thread_that_cannot_be_made_is_no_connection() {
+    const NAME: &str = "a_thread_that_cannot_be_made_is_no_connection";
+    if env::var_os("RUST_MIN_STACK").map_or(true, |size| size != NO_ROOM) {
+        let mut again = Command::new(env::current_exe().unwrap());
+        let ran = again
+            .args(["--exact", NAME, "--test-threads=1"])
+            .env("RUST_MIN_STACK", NO_ROOM)
+            .output()
+            .unwrap();
+        assert!(
+            ran.status.success() && String::from_utf8_lossy(&ran.stdout).contains("1 passed"),
+            "{ran:?}"
+        );
+        return;
+    }
+    assert!(thread::Builder::new().spawn(|| {}).is_err());
+    let mut session = Session::new(ID, false, UnixStream::pair).unwrap();
+    session.go_on(SOON, |_, event, _| panic!("{event:?}")).unwrap();
+    assert_eq!(session.client.describe(session.now()).state, LineState::Down);
 }
