@@ -213,10 +213,13 @@ int main(int argc, char **argv)
     snprintf(journal_path, sizeof journal_path, "%s.journal", path);
     snprintf(new_journal, sizeof new_journal, "%s.new", journal_path);
     strcat(strcpy(address.sun_path, path), ".socket");
+    int listener = socket(AF_UNIX, SOCK_STREAM, 0);
+    bool is_served = connect(listener, (struct sockaddr *)&address, sizeof address) == 0;
+    errno = EADDRINUSE;
+    need(!is_served, address.sun_path); /* two hosts would spoil one journal */
     if ((journal = fopen(journal_path, "r+b")) != NULL)
         resume();
     unlink(address.sun_path);
-    int listener = socket(AF_UNIX, SOCK_STREAM, 0);
     need(listener >= 0 && bind(listener, (struct sockaddr *)&address, sizeof address) == 0 && listen(listener, 5) == 0, address.sun_path);
     for (;;) {
         struct pollfd ends[2] = {{.fd = listener, .events = POLLIN}, {.fd = line, .events = POLLIN}};

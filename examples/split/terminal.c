@@ -166,28 +166,35 @@ static void edit(uint32_t start, uint32_t end, const char *utf8, size_t len)
 
 /* ---- Keys and screen ---- */
 
+/* Says how many bytes the key has that the bytes begin with; 0 if it isn't whole. */
+static size_t size_of(const char *keys, size_t len)
+{
+    uint8_t first = (uint8_t)keys[0];
+    size_t size = first < 0xC0 ? 1 : first < 0xE0 ? 2 : first < 0xF0 ? 3 : 4;
+    if (first == 27 && (len == 1 || keys[1] == '[' || keys[1] == 'O')) /* as of an arrow: up to its last letter */
+        for (size = 3; size <= len && (keys[size - 1] < '@' || keys[size - 1] > '~');)
+            size++;
+    return len < size ? 0 : size;
+}
+
 /* Does what the key does that the bytes begin with, and says how many bytes it has; 0 if it isn't whole. */
 static size_t press(const char *keys, size_t len)
 {
     uint8_t first = (uint8_t)keys[0];
-    size_t size = first < 0xC0 ? 1 : first < 0xE0 ? 2 : first < 0xF0 ? 3 : 4;
+    size_t size = size_of(keys, len);
     uint32_t runes = 0;
-    if (len < size || (first == 27 && len < 3))
-        return 0;
-    if (sam_client_len(&client, TAG, &runes) != SAM_OK)
+    if (size == 0 || sam_client_len(&client, TAG, &runes) != SAM_OK)
         return size; /* the text isn't open yet */
-    if (first == 27) {
+    if (first == 27 && size == 3) {
         caret += keys[2] == 'C' && caret < runes;
         caret -= keys[2] == 'D' && caret > 0;
-        return 3;
-    }
-    if (first == 23)
+    } else if (first == 23)
         ask(SAM_EVENT_WRITE, 0);
     else if (first == 127 && caret > 0)
         edit(caret - 1, caret, "", 0);
     else if (first == '\r' || first == '\n')
         edit(caret, caret, "\n", 1);
-    else if (first >= 32 && first != 127)
+    else if (first == '\t' || (first >= 32 && first != 127))
         edit(caret, caret, keys, size);
     return size;
 }
@@ -217,7 +224,8 @@ static void draw(void)
     sam_line_details details;
     uint32_t start = caret < SHOWN ? 0 : caret - SHOWN, count = 0, at = caret - start, lines = 0;
     must(sam_client_describe(&client, now(), &details));
-    printf("\033[H\033[J\033[?7l%s\n", details.state == SAM_LINE_OPEN || details.state == SAM_LINE_LATE ? told : "no connection");
+    bool is_there = details.state == SAM_LINE_OPEN || details.state == SAM_LINE_LATE;
+    printf("\033[H\033[J\033[?7l%s%s\n", is_there ? "" : "no connection ", told);
     if (sam_client_read(&client, TAG, start, runes, 2 * SHOWN, &count) != SAM_OK)
         count = at = 0;
     while (at > 0 && (lines += runes[at - 1] == '\n') <= LINES_ABOVE)

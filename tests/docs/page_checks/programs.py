@@ -1,10 +1,12 @@
 """Programs that the tutorials and how-tos show."""
 import os
 import re
+import shutil
 import subprocess
 import sys
+from pathlib import Path
 
-from checks import GIVEN_UP, ROOT, expect
+from checks import GIVEN_UP, ROOT, Skipped, expect
 
 PAGES = sorted([*(ROOT / "docs/tutorials").glob("*.md"), *(ROOT / "docs/howto").glob("*.md")])
 PROGRAM = re.compile(r"^```python\n(# (\w+\.py)\n.*?)^```$.*?^```text\n(.*?)^```$", re.MULTILINE | re.DOTALL)
@@ -13,10 +15,20 @@ SPLIT = ROOT / "examples/split"
 MOST_LINES = 70
 
 
-def run(folder, name, text):
+def build_disk(folder):
+    """The library that is a disk, of disk.c."""
+    compiler = (os.environ.get("CC") or "cc").split()
+    if not shutil.which(compiler[0]):
+        raise Skipped(f"{compiler[0]} is not installed")
+    library = folder / "disk.so"
+    subprocess.run([*compiler, "-O2", "-shared", "-fPIC", "-o", library, Path(__file__).with_name("disk.c")], check=True)
+    return library
+
+
+def run(folder, name, text, more=()):
     """What a program of a page prints."""
     (folder / name).write_text(text)
-    setting = dict(os.environ, PYTHONPATH=str(ROOT / "bindings/python"))
+    setting = dict(os.environ, PYTHONPATH=str(ROOT / "bindings/python"), **dict(more))
     ran = subprocess.run([sys.executable, name], cwd=folder, env=setting, capture_output=True, text=True, timeout=GIVEN_UP)
     expect(ran.returncode == 0, f"{name} ends with status {ran.returncode}:\n{ran.stdout}{ran.stderr}")
     return ran.stdout
@@ -31,6 +43,14 @@ def check_programs(folder):
             expect(printed == wanted, f"{name} of {page.name} prints\n{printed}and the page says\n{wanted}")
             counts[page.stem] = counts.get(page.stem, 0) + 1
     expect(counts == WITH_PROGRAMS, f"the pages have so many programs: {counts}")
+
+
+def check_durable_host(folder):
+    """The durable host of EMBEDDING prints the same over a disk that takes a few bytes of each write."""
+    page = (ROOT / "docs/howto/EMBEDDING.md").read_text()
+    ((text, name, wanted),) = PROGRAM.findall(page)
+    printed = run(folder, name, text, {"LD_PRELOAD": str(build_disk(folder)), "PYTHONDONTWRITEBYTECODE": "1"})
+    expect(printed == wanted, f"{name} prints\n{printed}and the page says\n{wanted}")
 
 
 def lines_of_code(text):

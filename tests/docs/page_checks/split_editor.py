@@ -13,6 +13,8 @@ from typing import List, NamedTuple
 
 from checks import LIBRARY, ROOT, Failed, Skipped, expect, expect_equal, wait_until
 
+from .programs import build_disk
+
 SPLIT = ROOT / "examples/split"
 NAME = "notes.txt"
 SETTING = {"PYTHONPATH": str(ROOT / "bindings/python"), "PYTHONDONTWRITEBYTECODE": "1", "LC_ALL": "C.UTF-8", "SHELL": "/bin/sh"}
@@ -124,6 +126,10 @@ class Screen:
     def wait_for_state(self, state):
         wait_until(lambda: self.lines[0].strip() == state, lambda: f"the first line isn't {state!r}:\n" + "\n".join(self.lines))
 
+    def wait_for_end(self):
+        words = [*self.words, "has-session"]
+        wait_until(lambda: subprocess.run(words, capture_output=True).returncode != 0, "the terminal doesn't end")
+
     def kill(self):
         os.kill(int(self.tmux("display", "-p", "#{pane_pid}")), signal.SIGKILL)
 
@@ -156,15 +162,15 @@ def in_c(folder):
 class Host:
     """The host of a pair, which may be killed and started again."""
 
-    def __init__(self, folder, pair):
+    def __init__(self, folder, pair, more=()):
         self.folder, self.pair, self.place = folder, pair, folder / f"{NAME}.socket"
+        self.setting = dict(os.environ, **SETTING, **dict(more))
         self.start()
 
     def start(self):
-        setting = dict(os.environ, **SETTING)
         self.place.unlink(missing_ok=True)
         with open(self.folder / "host.stderr", "w") as told:
-            self.process = subprocess.Popen([*self.pair.host, NAME], cwd=self.folder, env=setting, stderr=told)
+            self.process = subprocess.Popen([*self.pair.host, NAME], cwd=self.folder, env=self.setting, stderr=told)
         wait_until(lambda: self.place.exists() or self.process.poll() is not None, "the host doesn't begin")
         self.expect_alive()
 
@@ -177,12 +183,12 @@ class Host:
 
 
 @contextlib.contextmanager
-def served(folder, pair, text):
+def served(folder, pair, text, more=()):
     """A host with this text, and a line to it."""
     if not shutil.which("tmux"):
         raise Skipped("tmux is not installed")
     (folder / NAME).write_text(text)
-    host = Host(folder, pair)
+    host = Host(folder, pair, more)
     try:
         yield Line(folder / "line", host)
         host.expect_alive()
@@ -305,6 +311,62 @@ def is_taken_over(folder, pair, is_cut):
             saved(folder, second, "new and Shopping\n")
 
 
+def is_left(folder, pair):
+    """^C leaves at once if the host has all, and by a second one if it hasn't, which is told. The next terminal has what the host has."""
+    with served(folder, pair, "Shopping\n") as line:
+        with shown(folder, pair) as screen:
+            screen.wait_for("Shopping\n")
+            screen.type("new ")
+            screen.wait_for("new Shopping\n")
+            line.wait_for_rest()
+            screen.press("C-c")
+            screen.wait_for_end()
+        (folder / "line.tmux").unlink(missing_ok=True)
+        with shown(folder, pair) as screen:
+            screen.wait_for("new Shopping\n")
+            line.cut()
+            screen.wait_for_state("no connection")
+            screen.type("lost ")
+            screen.wait_for("lost new Shopping\n")
+            screen.press("C-c")
+            screen.wait_for_state("no connection the host hasn't all yet; ^C again leaves")
+            screen.press("C-c")
+            screen.wait_for_end()
+        line.mend()
+        (folder / "line.tmux").unlink(missing_ok=True)
+        with shown(folder, pair) as screen:
+            screen.wait_for("new Shopping\n")
+
+
+def other_keys(folder, pair):
+    """Keys of several bytes that do nothing here put nothing in, and neither does Escape; a tab comes in."""
+    with served(folder, pair, "Shopping\n"), shown(folder, pair) as screen:
+        screen.wait_for("Shopping\n")
+        screen.press("DC", "PPage", "F5", "C-Right", "C-a", "Escape")
+        for key in ("a", "Tab", "b"):
+            screen.press(key)
+        wanted = "a\tbShopping\n"
+        screen.wait_for(wanted.expandtabs())
+        screen.press("C-w")
+        wait_until(lambda: (folder / NAME).read_text() == wanted, lambda: f"the file is {(folder / NAME).read_text()!r}")
+
+
+def is_safe(folder, pair):
+    """A text is safe on the disk before it takes the name of the old one. Returns what was done to names, and what became safe, in order."""
+    notes, library = folder / "notes", build_disk(folder)
+    with served(folder, pair, "Shopping\n", {"LD_PRELOAD": str(library), "NOTED": str(notes)}), shown(folder, pair, f"{NAME}.socket") as screen:
+        screen.wait_for("Shopping\n")
+        screen.type("now ")
+        saved(folder, screen, "now Shopping\n")
+        screen.press("C-w")  # which is answered once all of the first one is done
+        rename = f"rename {NAME}.new {NAME}"
+        wait_until(lambda: notes.read_text().count(rename) == 2, lambda: f"it has noted {notes.read_text()}")
+    lines = notes.read_text().splitlines()
+    at = lines.index(rename)
+    expect(f"sync {folder / NAME}.new" in lines[:at], f"a text that isn't safe takes the old one's name: {lines}")
+    return lines, at
+
+
 def check_split_editor(folder):
     goes_on(folder, in_python(folder))
 
@@ -372,3 +434,42 @@ def check_split_editor_taken_over_without_a_connection(folder):
 
 def check_split_editor_in_c_taken_over_without_a_connection(folder):
     is_taken_over(folder, in_c(folder), True)
+
+
+def check_split_editor_is_left(folder):
+    is_left(folder, in_python(folder))
+
+
+def check_split_editor_in_c_is_left(folder):
+    is_left(folder, in_c(folder))
+
+
+def check_split_editor_other_keys(folder):
+    other_keys(folder, in_python(folder))
+
+
+def check_split_editor_in_c_other_keys(folder):
+    other_keys(folder, in_c(folder))
+
+
+def check_split_editor_is_safe(folder):
+    is_safe(folder, in_python(folder))
+
+
+def check_split_editor_in_c_is_safe(folder):
+    """The names of text and journal are safe, too, before the terminal hears of it."""
+    lines, at = is_safe(folder, in_c(folder))
+    expect_equal(lines[at + 1], f"sync {folder}")
+    at = lines.index(f"rename {NAME}.journal.new {NAME}.journal")
+    expect(f"sync {folder / NAME}.journal.new" in lines[:at], f"a journal that isn't safe takes its name: {lines}")
+    expect_equal(lines[at + 1], f"sync {folder}")
+
+
+def check_split_editor_in_c_long_file(folder):
+    """A file that is longer than a text can be is refused whole."""
+    pair, text = in_c(folder), "\U0001d11e" * 1_000_000 + "x"
+    with contextlib.suppress(Failed), served(folder, pair, text) as line, shown(folder, pair):
+        wait_until(lambda: line.host.process.poll() is not None, "the host serves it")
+    expect_equal((line.host.process.returncode, (folder / "host.stderr").read_text()), (1, f"{NAME}: File too large\n"))
+    expect_equal(sorted(path.name for path in folder.glob(f"{NAME}*")), [NAME, f"{NAME}.socket"])
+    expect((folder / NAME).read_text() == text, "the file is another")
