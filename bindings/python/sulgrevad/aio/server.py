@@ -2,6 +2,7 @@
 import asyncio
 import contextlib
 import errno
+import inspect
 import os
 import socket
 from collections import defaultdict, deque
@@ -201,8 +202,8 @@ class Server:
 
     The first terminal begins the session, and goes on over as many connections as it needs. Another one is refused, or takes the texts over
     if it asks for that. `on_write` is called as `on_write(name, text)` when a terminal has a text written: it returns once that is safe, or
-    raises an exception, mostly an OSError, which the terminal is told. It is called in the event loop, so it should not take long. Raises
-    AddRefused and NoMemory.
+    raises an exception, mostly an OSError, which the terminal is told. It is called in the event loop, so it should not take long, and is
+    no coroutine function: of what would have to be awaited the terminal is told that it failed. Raises AddRefused and NoMemory.
     """
 
     def __init__(self, files: Mapping[str, str], on_write: Optional[OnWrite] = None) -> None:
@@ -295,8 +296,8 @@ class Server:
         return served
 
     def _write(self, name: str, text: str) -> None:
-        if self._on_write:
-            self._on_write(name, text)
+        if self._on_write and inspect.isawaitable(self._on_write(name, text)):
+            raise TypeError("on_write is not to be awaited")  # nobody could know that the text is safe
         self.saved[name] = text
 
     def _end_soon(self, has_heard: bool) -> None:
@@ -314,14 +315,25 @@ class Server:
                 self._over.set_exception(why)
 
 
+async def _expect_unserved(path: str) -> None:
+    """Raises OSError if a program listens at the path: asyncio would take its socket away, and its terminals would not find back."""
+    try:
+        _, writer = await asyncio.open_unix_connection(path)
+    except OSError:
+        return
+    writer.close()
+    raise OSError(errno.EADDRINUSE, os.strerror(errno.EADDRINUSE), path)
+
+
 async def serve(files: Mapping[str, str], address: Address, on_write: Optional[OnWrite] = None) -> Dict[str, str]:
     """Serves texts by name to one session, as a `Server` does, and returns them once that is over, written or not. The address is the path
     of a Unix socket, a host and a port, or a reader and a writer that are connected: then the session ends with that connection. If the
     await is cancelled the terminal is told that the session is over. Raises the fault of a terminal whose bytes were wrong, and OSError if
-    nobody can listen there."""
+    nobody can listen there, or another program does."""
     server, listener = Server(files, on_write), None
     try:
         if isinstance(address, (str, os.PathLike)):
+            await _expect_unserved(os.fspath(address))
             listener = await asyncio.start_unix_server(server.accept, address)
         elif isinstance(address[0], asyncio.StreamReader):
             await server.accept(*address)
