@@ -11,7 +11,7 @@ import threading
 import time
 from typing import List, NamedTuple
 
-from checks import LIBRARY, ROOT, Failed, Skipped, expect, expect_equal, wait_until
+from checks import LIBRARY, ROOT, SECONDS, Failed, Skipped, expect, expect_equal, wait_until
 
 from .programs import build_disk
 
@@ -367,6 +367,21 @@ def is_safe(folder, pair):
     return lines, at
 
 
+def has_one_host(folder, pair):
+    """A second host of the file ends, and the first one keeps its terminal."""
+    with served(folder, pair, "Shopping\n") as line, shown(folder, pair) as screen:
+        screen.wait_for("Shopping\n")
+        screen.wait_for_state("")
+        words = [*pair.host, NAME]
+        second = subprocess.run(words, cwd=folder, env=line.host.setting, capture_output=True, text=True, timeout=SECONDS)
+        expect((second.returncode, "Address already in use" in second.stderr) == (1, True), f"it ends by {second}")
+        line.cut()
+        screen.type("now ")
+        line.mend()
+        screen.wait_for_state("")
+        saved(folder, screen, "now Shopping\n")
+
+
 def check_split_editor(folder):
     goes_on(folder, in_python(folder))
 
@@ -463,6 +478,14 @@ def check_split_editor_in_c_is_safe(folder):
     at = lines.index(f"rename {NAME}.journal.new {NAME}.journal")
     expect(f"sync {folder / NAME}.journal.new" in lines[:at], f"a journal that isn't safe takes its name: {lines}")
     expect_equal(lines[at + 1], f"sync {folder}")
+
+
+def check_split_editor_has_one_host(folder):
+    has_one_host(folder, in_python(folder))
+
+
+def check_split_editor_in_c_has_one_host(folder):
+    has_one_host(folder, in_c(folder))
 
 
 def check_split_editor_in_c_long_file(folder):
