@@ -19,7 +19,7 @@ const LEAST: usize = 150;
 const LIMIT: Duration = Duration::from_secs(100);
 const SOON: Duration = Duration::from_millis(30);
 /// Notes of 4,096 bytes: more than all on the way to a host has room for.
-const NOTES: u8 = 250;
+const NOTES: u8 = 150;
 /// A stack for which no machine has room.
 const NO_ROOM: &str = "140737488355328";
 
@@ -45,7 +45,7 @@ impl Far {
         }))
     }
 
-    /// Makes a connection to it: a thread carries it, one byte after another, until so many came or went.
+    /// Makes a connection to it: a thread carries it, until so many bytes came or went; one after another, if so many are to come.
     fn connect(far: &Arc<Mutex<Far>>) -> io::Result<(UnixStream, UnixStream)> {
         let (near, other) = UnixStream::pair()?;
         let limit = {
@@ -77,8 +77,14 @@ impl Far {
         for piece in self.host.take_out() {
             self.link.put(&piece)?;
         }
-        let count = self.link.take_out(attempt, &mut bytes)?;
-        Ok(bytes[..count].to_vec())
+        let mut out = Vec::new();
+        loop {
+            let count = self.link.take_out(attempt, &mut bytes)?;
+            if count == 0 {
+                return Ok(out);
+            }
+            out.extend_from_slice(&bytes[..count]);
+        }
     }
 }
 
@@ -86,13 +92,15 @@ fn carry(far: &Mutex<Far>, mut end: UnixStream, (up, mut down): (usize, usize)) 
     let mut hello = [0; 42];
     let mut attempt = 0;
     for at in 0..up {
-        let mut byte = [0];
-        if end.read(&mut byte).unwrap_or(0) == 0 {
+        let mut piece = [0; 4096];
+        let most = if up == usize::MAX && at >= hello.len() { piece.len() } else { 1 };
+        let count = end.read(&mut piece[..most]).unwrap_or(0);
+        if count == 0 {
             return;
         }
         let mut far = far.lock().unwrap();
         let out = if at < hello.len() {
-            hello[at] = byte[0];
+            hello[at] = piece[0];
             if at + 1 < hello.len() {
                 continue;
             }
@@ -103,7 +111,7 @@ fn carry(far: &Mutex<Far>, mut end: UnixStream, (up, mut down): (usize, usize)) 
                 Err(why) => panic!("{why}"),
             }
         } else {
-            match far.take(attempt, &byte) {
+            match far.take(attempt, &piece[..count]) {
                 Ok(out) => out,
                 Err(_) => return, // a newer connection has come
             }
