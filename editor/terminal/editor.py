@@ -410,7 +410,7 @@ class Editor(WindowLayout, KeyQueue, Actions):
         """Does what a key says. A question is over then: the key answers it, or takes it back."""
         key, is_for_menu, stood = pressed.key, pressed.window is None and self._is_for_menu(pressed.key), self.notes.message
         if not self.notes.question or pressed.when >= self._asked_at:  # else the key came before that was asked
-            self.notes.take(pressed.has_read)
+            self.notes.take(pressed.read)
         if self.is_lost and not is_for_menu and not self._reads(key):
             self.take_late([key])
             self.message = self._why_not(key)
@@ -439,7 +439,7 @@ class Editor(WindowLayout, KeyQueue, Actions):
             self.keeping.typed_late += self.texts.left
         self._answered = ""
         if self._again is not None:
-            again = pressed._replace(key=self._again, answers="", has_read=False, is_again=True)
+            again = pressed._replace(key=self._again, answers="", read="", is_again=True)
             self._put_back(self.as_told(again, self._lacks_line, stood) if self._lacks_line else again)
             self._again, self._lacks_line = None, ""
 
@@ -498,7 +498,7 @@ class Editor(WindowLayout, KeyQueue, Actions):
 
     def _act_in_help(self, pressed: Pressed) -> Optional[Input]:
         """What is pressed over the help. Returns what of it is for the windows."""
-        self.notes.take(pressed.has_read)
+        self.notes.take(pressed.read)
         key = pressed.key
         rest: Optional[Input] = None
         if isinstance(key, Text) and len(key.runes) > 1:

@@ -31,12 +31,12 @@ FIRST_REACH, LONGEST_REACH = 4_096, 32_768
 
 
 class Pressed(NamedTuple):
-    """A key, the second at which it was pressed, the question that it answers, and whether its user had read the line."""
+    """A key, the second at which it was pressed, the question that it answers, and the line that its user had read."""
 
     key: Input
     when: float
     answers: str = ""
-    has_read: bool = False
+    read: str = ""
     is_again: bool = False  # it acted already, and goes on
     # The window that it goes to, wherever later keys go: known once no key before it can change that. None for one that keeps its order
     # among all keys, or goes to a menu.
@@ -151,7 +151,7 @@ class KeyQueue:
         if isinstance(key, Text) and key.runes[:1] == "\t" and len(key.runes) > 1:
             self.take(TAB, when)
             key = Text(key.runes[1:])
-        pressed, binding = Pressed(key, when, self._answer_of(key, when), self.notes.is_read), self.bound(key)
+        pressed, binding = Pressed(key, when, self._answer_of(key, when), self.notes.read_line), self.bound(key)
         is_leave = binding.action == "leave"
         is_sure = pressed.answers != "" and (self.way.is_late or pressed.answers in map(self.of_leaving, (LEAVING, WAITING)))
         self._leaves_at = when + REPEAT if is_leave and is_sure else None
@@ -454,7 +454,7 @@ class KeyQueue:
         window = first.window or self.focus
         if self.action_of(first.key) == "write":
             del self.deferred[self._at]
-            self.notes.take(first.has_read)
+            self.notes.take(first.read)
             self.write_later((first.window or self.active).tag, is_sure=False)
             return True
         words = self._refusal_of(first, window)
@@ -462,7 +462,7 @@ class KeyQueue:
             return False
         if first.told_at is None:
             first = self.deferred[self._at] = self.as_told(first, words, self.notes.message)
-            self.notes.take(first.has_read)
+            self.notes.take(first.read)
             self.message = words
         left = self._left(first.told_at, READ_AFTER)
         if left > 0:

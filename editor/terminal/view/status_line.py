@@ -101,7 +101,7 @@ class Notes:
             del self.unread[MOST_UNREAD:]
 
     def forget(self, line: str) -> None:
-        """A question says what a line did."""
+        """A question says what a line did, or it is read."""
         self.unread = [kept for kept in self.unread if kept[1] != line]
 
     def forget_the_line(self) -> None:
@@ -114,12 +114,17 @@ class Notes:
         return self._is_seen and self.line == self._drawn
 
     @property
+    def read_line(self) -> str:
+        """The line, of those that stay until they are read, that someone has read who presses a key now; "" where it is none."""
+        first = self.unread[0][1] if self.unread else ""
+        return first if self.is_read and self.line.startswith(first) else ""
+
+    @property
     def answered(self) -> str:
         """The question that a key which comes now answers."""
         return self.question if not self._shows_unread and self.is_read else ""
 
-    def take(self, has_read: bool) -> None:
-        """A key acts: what its user had read goes."""
-        if self._shows_unread and has_read:
-            self.unread.pop(0)
+    def take(self, read: str) -> None:
+        """A key acts: the line goes that its user had read. Where the key has waited, another one may stand there by now."""
+        self.forget(read)
         self.say("")

@@ -243,6 +243,23 @@ def check_worst_line_of_many(folder):
         expect(told.text in editor.message, f"it shows {editor.message!r}, wanted {told.text!r}")
 
 
+def check_a_line_that_comes_while_keys_wait(folder):
+    """Keys that were pressed before a line stood there take it for read as little once they act, however long they waited, as do those that
+    come at once behind the key that shows it."""
+    pair, editor, key, text = opened("one\n")
+    pair.press(key("Left"))  # the line at the bottom is empty then, and read
+    for each in (key("^D"), text("x"), text("y")):
+        editor.take(each)
+    expect(editor.deferred, "this test is wrong: no key waits")
+    for told in (not_saved(1, copy="/tmp/first"), not_saved(1, copy="/tmp/second")):
+        editor.hear(told)
+    pair.finish()
+    expect(not editor.deferred and "/tmp/first" in editor.message, f"it shows {editor.message!r}")
+    for each in (key("Left"), key("Left")):
+        editor.take(each)
+    expect("/tmp/second" in editor.message, f"the second line is gone unread: it shows {editor.message!r}")
+
+
 def check_text_lost(folder):
     """The exit status tells that a text could not be saved anywhere."""
     notes = first_message(), lost(1), Note(NoteKind.ENDED, number=5)
