@@ -542,7 +542,8 @@ class KeyQueue:
             find(*([isinstance(key, Key) and "Shift-" in key.name] if binding.extends else []))
         except Missing as missing:
             self._wants_text = True
-            if window.may_ask and not window.layout().shows(missing.place) and not self.texts.holds_back:  # else the window asks for it
+            asks = window in self.windows and window.layout().shows(missing.place)  # the window itself, where it is on the screen
+            if window.may_ask and not asks and not self.texts.holds_back:
                 self._tried(lambda: self._load_towards(window, missing))
             return True
         return False

@@ -64,6 +64,23 @@ def check_keys_of_another_file(folder):
         pair.check()
 
 
+def check_keys_of_a_file_that_leaves_the_screen(folder):
+    """A key that waits for text which its window shows acts, too, where another file takes that window's place before the text is asked
+    for."""
+    pair, editor, key, text = in_a_small_window()
+    pair.host.add_file("other", "two\n")
+    pair.terminal.offer_version(2)
+    pair.finish()
+    first = editor.active
+    editor.take(text("x"))
+    editor.arrange(400, 80)  # what a larger screen shows is not asked for while the user types
+    for each in (key("Page Down"), text("y"), key("^O"), text("other"), text("\n")):
+        editor.take(each)
+    expect(editor.deferred and first not in editor.windows, f"this test is wrong: {editor.deferred} wait")
+    pair.finish()
+    expect(not editor.deferred and pair.host.text(first.tag).startswith("xyline 0"), f"{len(editor.deferred)} keys wait")
+
+
 def check_enter_after_keys_of_all_files(folder):
     """A command line runs once the keys before it have acted, and those after it wait for it."""
     pair, editor, key, text = locked("one\n", "two\n")
