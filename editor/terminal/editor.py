@@ -231,13 +231,14 @@ class Editor(WindowLayout, KeyQueue, Actions):
         self.give_back(typed, why)
 
     def give_back(self, typed: str, why: str) -> None:
-        """Tells of it; and has `^V` have what was typed, or a file here."""
+        """Tells of it; and has `^V` have what was typed, as if it were cut, or a file here where something was cut that stands nowhere
+        else."""
         if typed and self.cut_text:
             why += f"; {self.keeping.keep_typed(typed)}"
         elif typed:
             try:
-                self.terminal.set_snarf(typed)
-                self.note_snarfed(typed)
+                self.set_snarfed(typed)
+                self.cut_text = typed
                 why += f"; {self.keys.of('paste')} has what you typed for it"
             except (SamError, MemoryError):  # the host can't have it
                 why += f"; {self.keeping.keep_typed(typed)}"

@@ -233,8 +233,7 @@ class Recovery:
         if text is None or len(text) > MOST_RUNES:
             self.editor.message = f"{old.path} can't be read" if text is None else f"{old.path} is too long"
             return True
-        self.terminal.set_snarf(text)
-        self.editor.note_snarfed(text)
+        self.editor.set_snarfed(text)
         take, paste = self.editor.keys.of("old"), self.editor.keys.of("paste")
         self.editor.message = f"{paste} pastes at the caret what was typed and not put in; {old.path} stays until {take} and d drop it"
         return True

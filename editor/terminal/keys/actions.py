@@ -14,6 +14,7 @@ from ..view.windows import Window
 MOST_IN_MENU = 2_000  # files
 LEAST_ROWS = 4  # rows of the least window, with its title
 MOST_UNDER_A_LOCK = 20_000  # changes that one key makes while their file is locked
+MOST_SENT = 32_000  # bytes of a text that the host takes for what was copied
 TOO_LONG = f"the file would have more than {MOST_RUNES:,} characters"
 
 
@@ -267,6 +268,12 @@ class Actions(Commands, Moves):
     def note_snarfed(self, text: str) -> None:
         """The snarf buffer has another text than the user has cut or copied last."""
         self._snarfed, self.cut_text = text, ""
+
+    def set_snarfed(self, text: str) -> None:
+        """Has `^V` paste a text. The host has it, too, where it is not too long for that."""
+        if len(text.encode()) <= MOST_SENT:
+            self.terminal.set_snarf(text)
+        self.note_snarfed(text)
 
     def do_cut(self) -> None:
         """Copies the selection, and takes it out. The host has the copy, too, for a later session."""

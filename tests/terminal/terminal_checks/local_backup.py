@@ -632,6 +632,28 @@ def check_given_back_without_memory(folder):
     kept.expect([("typed", "typed")], f"it tells {editor.message!r}")
 
 
+def check_given_back(folder):
+    """What was typed and comes back is what `^V` pastes. Until it is pasted nothing else that comes back takes its place, and it is written
+    here where the host is lost. So it is with a text that is longer than the host takes for that."""
+    from sulgrevad import Dropped
+
+    for given in ("typed", "long " * 8_000):
+        for pastes in (False, True):
+            pair, editor, key, text = opened("one\n")
+            with Kept() as kept:
+                pair.terminal.give_back(Dropped(1, 0, len(given), given))
+                pair.finish()
+                expect("^V has what you typed" in editor.message, f"{len(given)} characters: it tells {editor.message!r}")
+                if pastes:
+                    pair.press(key("Left"), key("^V"))
+                pair.terminal.give_back(Dropped(1, 0, 5, "later"))
+                pair.finish()
+                editor.lose("the host is gone")
+            in_text = [("file0", f"{given}one\n")] if pastes else []
+            others = [("cut", "later")] if pastes else [("typed", "later"), ("cut", given)]
+            kept.expect([*in_text, *others], f"{len(given)} characters, pasted: {pastes}")
+
+
 def check_an_old_text_without_room(folder):
     """A text that an earlier session left, and that has no room in its file while the host works on that, is not taken; a write drops it
     then as little as before."""
