@@ -1,7 +1,6 @@
 """The editor: what comes from the host, and the keys that act. Windows stand in view/window_layout.py, keys that wait in
 keys/key_queue.py, and what a key does in keys/actions.py."""
 import time
-from collections import deque
 from typing import Callable, Container, Iterable, List, Optional, Sequence, Tuple, Union
 
 from .keys.actions import TOO_LONG, Actions, Pasting
@@ -224,12 +223,6 @@ class Editor(WindowLayout, KeyQueue, Actions):
         """Runes come back for which the host left no room."""
         self.give_back(dropped.text, f"{self.name(dropped.tag)} has no room for what was typed there, as the host put more in")
 
-    def give_back_typed(self, why: str) -> None:
-        """What was typed for a file that doesn't come is put in nowhere: `^V` has it, or else a file here."""
-        typed = self.typed_in(None)
-        self.deferred = deque(pressed for pressed in self.deferred if pressed.window is not None)
-        self.give_back(typed, why)
-
     def give_back(self, typed: str, why: str) -> None:
         """Tells of it; and has `^V` have what was typed, as if it were cut, or a file here where something was cut that stands nowhere
         else."""
@@ -329,7 +322,7 @@ class Editor(WindowLayout, KeyQueue, Actions):
             del self.all_windows[window.tag]
         for window in {pressed.window for pressed in self.deferred} - {None, self.command} if self.deferred else ():
             if not self.is_users(window.tag):
-                self.let_go_of(window)
+                self.let_go_of(window, "a file is closed for which keys waited")
         current = self.terminal.current
         is_shown = current is None or current in self.all_windows
         if not is_shown and self.is_users(current):  # it was made; command lines work on a file that had a window

@@ -74,7 +74,7 @@ class OpenRequests:
             if isinstance(self.editor.menu, Files):
                 self.editor.menu.go_into(path)
         elif note.kind == NoteKind.REFUSED:
-            self.editor.give_back_typed(f"{self._path} is not opened: {note.text}")
+            self.editor.let_go_of(None, f"{self._path} is not opened: {note.text}")
             self._path = None
 
     def go_on(self) -> None:

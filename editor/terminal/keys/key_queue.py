@@ -3,7 +3,7 @@ go by several files; so the same keys do the same over any line, and a file that
 """
 from collections import deque
 from itertools import islice
-from typing import Callable, Deque, Dict, NamedTuple, Optional, Set
+from typing import Callable, Deque, Dict, Iterable, NamedTuple, Optional, Set
 
 from .bindings import ALL, ANSWERS, FILE, LINE, NOTHING, PATTERN, PLACE, ROWS, SCREEN, WINDOW, WINDOWS
 from .bindings import PROMPT, Binding, Input, Key, KeySet, Mouse, Paste, Text
@@ -55,8 +55,14 @@ RUNNING = Binding((), "", "", ANSWERS, ROWS, asks=True, order=LINE, shares=PATTE
 FINDING = ("look", "search")  # actions that go on in what is loaded where the line is lost
 TURNING = ("page_up", "page_down")  # those that turn pages: the caret stays
 AT_CARET = ("cut", "snarf", "paste", "erase_left", "erase_right", "unindent")  # those that change or copy text at the caret
+CHOOSING = ("menu", "new")  # those behind which keys are for another file, whichever comes before
 OF_THE_FILE = ("write", "reload")  # those that are for the file that was used last, wherever keys go
 BY_ROWS = (ROWS, "up", "down")  # what keys need that go by the rows of the screen
+
+
+def typed_of(keys: Iterable[Pressed]) -> str:
+    """What of some keys was typed."""
+    return "".join(pressed.key.runes for pressed in keys if isinstance(pressed.key, (Text, Paste)))
 
 
 def last_of(key: Input) -> Input:
@@ -375,13 +381,16 @@ class KeyQueue:
         """A key, or the rest of a text, comes where the key stood that acts now."""
         self.deferred.insert(self._at, pressed)
 
-    def let_go_of(self, window: Window) -> None:
-        """A file is gone, and its window: what was typed there and waits is put in nowhere."""
-        kept = [pressed for pressed in self.deferred if pressed.window is not window]
-        if len(kept) < len(self.deferred):
-            typed = self.typed_in(window)
-            self.deferred = deque(kept)
-            self.give_back(typed, "a file is closed for which keys waited")
+    def let_go_of(self, window: Optional[Window], why: str) -> None:
+        """The file of a window is gone; or where that is None, one doesn't come for which keys wait. These keys go, up to one that chooses
+        another file. What was typed is put in nowhere: it is given back."""
+        keys = [*self.deferred]
+        chooses = (at for at, pressed in enumerate(keys) if pressed.window is window is None and self.action_of(pressed.key) in CHOOSING)
+        end = next(chooses, len(keys))
+        gone = [pressed for pressed in keys[:end] if pressed.window is window]
+        self.deferred = deque(pressed for at, pressed in enumerate(keys) if at >= end or pressed.window is not window)
+        others = "" if all(isinstance(pressed.key, (Text, Paste)) for pressed in gone) else "; other keys for it are not done"
+        self.give_back(typed_of(gone), why + others)
 
     # ---- What a key waits for
 
@@ -571,12 +580,11 @@ class KeyQueue:
     @property
     def typed_ahead(self) -> str:
         """What was typed and still waits."""
-        return "".join(pressed.key.runes for pressed in self.deferred if isinstance(pressed.key, (Text, Paste)))
+        return typed_of(self.deferred)
 
     def typed_in(self, window: Optional[Window]) -> str:
         """The same of what was typed in a window; or, where that is None, for whichever keys will go to."""
-        texts = (pressed for pressed in self.deferred if isinstance(pressed.key, (Text, Paste)))
-        return "".join(pressed.key.runes for pressed in texts if pressed.window is window)
+        return typed_of(pressed for pressed in self.deferred if pressed.window is window)
 
     @property
     def _turns(self) -> int:
