@@ -11,6 +11,7 @@ from sulgrevad import Note, NoteCode, NoteFault, NoteKind
 QUIET = 1.0  # seconds after the last key from which on a file may come up that the user did not ask for
 MOST_WISHES = 64  # that wait; of more the first ones are dropped
 VERSION = 2  # of the protocol; with its offer come the names of files that have joined
+STEPS = {"\n": 0, "\t": 0, "Up": -1, "Down": 1}  # keys of the menu that go by its entries, and how far from the chosen one
 
 
 class Wished(NamedTuple):
@@ -25,18 +26,19 @@ class OpenRequests:
 
     def __init__(self, editor):
         self.editor, self.terminal = editor, editor.terminal
-        self._names_of = self._open_of = 0  # the last task for names, and for a file: its answer has this number
+        self._open_of = 0  # the last task for a file: its answer has this number
         self._path: Optional[str] = None  # the path that is being opened
         self._opened: Optional[int] = None  # the file of the path, once the host has told it
         self._wishes: Deque[Wished] = deque(maxlen=MOST_WISHES)
         self._asked_for: Optional[Wished] = None  # the wish for which the names were asked for
         self._goes_to: Optional[Wished] = None  # a file that is shown, until the line is gone to
 
-    def ask_names(self, path: str) -> None:
-        """Asks for names that complete a path. The answer to the last question counts."""
-        self._names_of = 0
-        with contextlib.suppress(NoteFault):  # of a path that is too long nothing is known
-            self._names_of = self.terminal.begin(NoteKind.COMPLETE, path)
+    def ask_names(self, path: str) -> int:
+        """Asks for names that complete a path. Returns the number of the task; 0 where it is none, as of a path that is too long nothing is
+        known."""
+        with contextlib.suppress(NoteFault):
+            return self.terminal.begin(NoteKind.COMPLETE, path) if path else 0
+        return 0
 
     def open(self, path: str) -> bool:
         """Has the host open a file. Returns whether that is asked; else the key acts again, or can't act."""
@@ -61,9 +63,8 @@ class OpenRequests:
         """An answer of the host, or the wish of another program."""
         if note.kind == NoteKind.SHOWN:
             self._wishes.append(Wished(note.tag, note.number))
-        elif note.kind == NoteKind.NAMES and note.request == self._names_of and isinstance(self.editor.menu, Files):
-            names = os.fsdecode(note.path).split("\n")[:-1]
-            self.editor.menu.meet_names(names, note.code == NoteCode.HAS_MORE)
+        elif note.kind == NoteKind.NAMES and isinstance(self.editor.menu, Files):
+            self.editor.menu.meet_names(note)
         elif self._path is None or note.request != self._open_of:
             return
         elif note.kind == NoteKind.OPENED:
@@ -116,6 +117,7 @@ class Files(Menu):
 
     def __init__(self, joining: OpenRequests, entries: List[Tuple[str, str]], chosen: int, choose):
         self.joining, self.names, self.has_more, self.is_answered = joining, [], False, False
+        self._asked = 0  # the last task for names
         super().__init__("Files; a path opens another", entries, chosen, choose)
 
     @property
@@ -151,6 +153,12 @@ class Files(Menu):
         is_new = self.is_answered and path == self.typed and path[len(self._folder) :] not in self.names
         return "  (a new file)" if is_new else ""
 
+    def lacks_names(self, key: Input) -> bool:
+        """Whether a key, or the first of some, goes by the host's paths, of which the answer is still to come: so the same keys open the
+        same file over any line."""
+        step = STEPS.get(key.runes[:1] if isinstance(key, Text) else key.name if isinstance(key, Key) else "")
+        return step is not None and self._asked != 0 and not self.is_answered and self.chosen + step >= len(self.shown)
+
     def take(self, key: Input) -> bool:
         paths = self._paths
         if isinstance(key, Text) and key.runes in ("\n", "\t"):
@@ -160,8 +168,8 @@ class Files(Menu):
             elif self.chosen - len(self.shown) < len(paths):
                 self._take_path(paths[self.chosen - len(self.shown)], key.runes == "\n")
             return False
-        if isinstance(key, Key) and key.name in ("Up", "Down"):
-            self.chosen = max(0, min(self.chosen + (1 if key.name == "Down" else -1), self._count - 1))
+        if isinstance(key, Key) and key.name in STEPS:
+            self.chosen = max(0, min(self.chosen + STEPS[key.name], self._count - 1))
             return False
         return super().take(key)
 
@@ -180,11 +188,13 @@ class Files(Menu):
         if self._folder != folder:
             self.names = []
         self.has_more = self.is_answered = False
-        if typed:
-            self.joining.ask_names(typed)
+        self._asked = 0  # also where memory is out
+        self._asked = self.joining.ask_names(typed)
 
-    def meet_names(self, names: List[str], has_more: bool) -> None:
-        """The host has told names that complete the path."""
-        self.names, self.has_more, self.is_answered = names, has_more, True
-        if self.typed in self._paths and self.typed[len(self._folder) :] in names:
+    def meet_names(self, note: Note) -> None:
+        """The host has told names that complete a path: that which was asked for last, or another."""
+        if note.request != self._asked:
+            return
+        self.names, self.has_more, self.is_answered = os.fsdecode(note.path).split("\n")[:-1], note.code == NoteCode.HAS_MORE, True
+        if self.typed in self._paths and self.typed[len(self._folder) :] in self.names:
             self.chosen = len(self.shown) + self._paths.index(self.typed)

@@ -7,6 +7,7 @@ from typing import Callable, Deque, Dict, Iterable, NamedTuple, Optional, Set
 
 from .bindings import ALL, ANSWERS, FILE, LINE, NOTHING, PATTERN, PLACE, ROWS, SCREEN, WINDOW, WINDOWS
 from .bindings import PROMPT, Binding, Input, Key, KeySet, Mouse, Paste, Text
+from ..files.open_requests import Files
 from ..view.layout import line_end, line_start
 from ..view.status_line import READ_AFTER, REPEAT
 from sulgrevad import SamError
@@ -409,8 +410,9 @@ class KeyQueue:
         if pressed.is_again and self.is_lock_held:
             return True
         if pressed.window is None and self._is_for_menu(key):
-            asks_host = not self.menu.is_box and self.menu.runs_line(key)
-            return (self.menu.goes_by_place and not self.focus.is_settled) or self._lacks_command_file(asks_host)
+            if self.menu.is_box:
+                return isinstance(self.menu, Files) and self.menu.lacks_names(key) and not self.way.is_late
+            return not self.focus.is_settled or self._lacks_command_file(self.menu.runs_line(key))
         if self._are_windows_due or self._lacks_command_file(self._runs_line(pressed, binding)):
             return True
         if self.way.is_late and (binding.action == "write" or self._needs_line(key, binding)):

@@ -29,8 +29,7 @@ class Find:
     """Takes keys until the user goes on; the selection shows what was found. A pattern without a capital letter finds letters of any case
     in what is loaded; the host finds it as it stands."""
 
-    is_box = False  # it stands on the line at the bottom
-    goes_by_place = True
+    is_box = False  # it stands on the line at the bottom, and goes by the place in the window
 
     def __init__(self, editor):
         self.editor, self.window, self.is_over = editor, editor.focus, False

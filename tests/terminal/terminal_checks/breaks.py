@@ -19,7 +19,8 @@ from .pairs import LONG as MANY_LINES
 from .pairs import Line, in_a_small_window, loads_of, opened, with_line
 from .slow_line import QUIET_LOOP, least_loop
 from .stalled_line import MOST_FOR_A_KEY
-from .support import COMMAND_WINDOW, READ_AFTER, SAMHOST, SAMHOST_WORD, STATE, Session, expect, host_that, made, wait_for_text, wait_until
+from .support import COMMAND_WINDOW, LINK, READ_AFTER, SAMHOST, SAMHOST_WORD, STATE, Session, expect, host_that, made, wait_for_text
+from .support import wait_until
 
 MOST_LOADED = 30_000  # runes at once
 LINES = [f"line {number} {'x' * (number * 7 % 60)}\n" for number in range(1, 1501)]
@@ -494,6 +495,31 @@ def check_open_by_path(folder):
         session.keys("C-w")
         wait_for_text(other, "xbeestray\n")
         session.leave()
+
+
+def check_keys_behind_a_path_at_once(folder):
+    """Keys that come before the host's answer open what they would over a quick line, also where they are the front of a path. Of those
+    behind a path that is refused the ones for it go, and the others act."""
+    path, other = made(folder, note="one\n", paper="two\n")
+    with Session(folder, "note.txt", stays=True, slow=LINK, width=200) as session:
+        session.wait_for("one")
+        session.wait_for_quiet()
+        session.keys("F2")
+        session.wait_for("Files; a path")
+        session.keys(*"pap", "Enter", *"typed", "C-w")
+        session.wait_to_go_to("paper.txt")
+        wait_for_text(other, "typedtwo\n")
+        session.wait_for_quiet()
+        session.keys("F2", *"nowhere/x.txt", "Enter", *"stray", "C-w", "F2", *"note.txt", "Enter", *"more", "C-w")
+        session.wait_for("other keys for it are not done; ^V has what you typed")
+        wait_for_text(path, "moreone\n")
+        session.wait_to_go_to("note.txt")
+        session.keys("C-v")
+        session.wait_for("morestrayone")
+        session.keys("C-w")
+        wait_for_text(path, "morestrayone\n")
+        session.leave()
+    expect(sorted(path.name for path in folder.glob("pap*")) == ["paper.txt"], "the front of a path is a file of its own")
 
 
 def check_wished_file(folder):

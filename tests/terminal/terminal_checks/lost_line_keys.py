@@ -209,8 +209,11 @@ def check_enter_of_a_menu_on_a_lost_line(folder):
         editor.take(text("x"))
         if goes_to_commands:
             pair.press(key("Esc"))
-        for each in (key("^W"), key("F2"), text("two.txt"), text("\n")):
+        for each in (key("^W"), key("F2"), text("two.txt")):
             editor.take(each)
+        pair.settle()
+        editor.go_on()  # the host has told the names
+        editor.take(text("\n"))
         expect(len(editor.deferred) == 1, f"this test is wrong: {editor.deferred}")
         line.is_broken = True
         pair.wait(seconds)

@@ -4,7 +4,7 @@ from types import SimpleNamespace
 
 from .messages import saved
 from .support import Failed, expect
-from sulgrevad import NoteKind, read_note, write_note
+from sulgrevad import Note, NoteKind, read_note, write_note
 
 
 class Ends:
@@ -44,6 +44,9 @@ class Ends:
             self.notes.append(note := read_note(data))
             if note.kind == NoteKind.WRITE:
                 self.writes.append(note)
+            elif note.kind == NoteKind.COMPLETE:  # there are no paths
+                self.link.put_note(write_note(Note(NoteKind.NAMES, request=note.request)))
+                self._carry()
         return data is not None
 
     def answer_write(self, note):

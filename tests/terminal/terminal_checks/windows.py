@@ -52,7 +52,7 @@ def check_typing_at_the_menu(folder):
         ((text("a"),), (["d/e/tab.txt", "Data/a.c"], "d/e/tab.txt")),
         ((key("Down"),), (["d/e/tab.txt", "Data/a.c"], "Data/a.c")),
         ((key("Backspace"), key("Backspace"), text("d")), (["d/e/tab.txt", "Data/a.c"], "d/e/tab.txt")),
-        ((text("zz"), key("Down")), ([], "+ dzz")),
+        ((text("zz"), key("Down")), ([], "+ dzz  (a new file)")),
         ((key("Backspace"),) * 3, (list(names), "notes.txt")),
         ((text("A.c"),), (["Data/a.c", "extra.c"], "Data/a.c")),
     ):  # fmt: skip
