@@ -4,16 +4,17 @@ import contextlib
 import os
 import select
 import signal
-from typing import Callable, Dict, List, Optional, Tuple
+from typing import Callable, Dict, List, Optional, Tuple, Union
 
 from . import local_backup
 
-Which = Tuple[Optional[int], str]  # a file's tag, None for what is no file, and a name
+Which = Union[int, str]  # a file's tag; of what is no file the name
+Texts = List[Tuple[Which, str, Callable[[], str]]]  # texts with their names, each of which a call reads
 MOST_READ = 65_536  # bytes of what it tells that are read at once
 
 
 class BackupProcess:
-    """The paths of what was written, by tag and name."""
+    """The paths of what was written. Those of a file go by its tag, since a command line may give it another name."""
 
     def __init__(self) -> None:
         self.paths: Dict[Which, str] = {}
@@ -25,8 +26,8 @@ class BackupProcess:
         """Whether the last texts are still written."""
         return self._process != 0 and not select.select([self._told], [], [], 0)[0]
 
-    def write(self, texts: List[Tuple[Which, Callable[[], str]]]) -> None:
-        """Begins to write texts, each of which a call reads; unless the last ones are still written."""
+    def write(self, texts: Texts) -> None:
+        """Begins to write texts, unless the last ones are still written."""
         if self.is_writing:
             return
         self.finish()
@@ -43,25 +44,25 @@ class BackupProcess:
         os.close(tells)
         self._process, self._told = process, told
 
-    def _write_and_end(self, texts: List[Tuple[Which, Callable[[], str]]], tells: int) -> None:
+    def _write_and_end(self, texts: Texts, tells: int) -> None:
         """What the process does."""
         try:
             signal.set_wakeup_fd(-1)
             self._write(texts)
             import json  # which few sessions need
 
-            os.write(tells, json.dumps([[*which, path] for which, path in self.paths.items()]).encode("utf-8", "surrogateescape"))
+            os.write(tells, json.dumps([*self.paths.items()]).encode("utf-8", "surrogateescape"))
         finally:
             os._exit(0)
 
-    def _write(self, texts: List[Tuple[Which, Callable[[], str]]]) -> None:
-        for which, text_of in texts:
+    def _write(self, texts: Texts) -> None:
+        for which, name, text_of in texts:
             with contextlib.suppress(Exception):  # it is tried again, and at the end it is told
                 text, path = text_of(), self.paths.get(which)
                 if path is not None:
-                    path = local_backup.renew(which[1], path, text)
+                    path = local_backup.renew(name, path, text)
                 elif text:
-                    path = local_backup.keep(which[1], text)
+                    path = local_backup.keep(name, text)
                 if path is not None:
                     self.paths[which] = path
 
@@ -79,7 +80,7 @@ class BackupProcess:
         import json
 
         with contextlib.suppress(ValueError):  # it was killed before it could tell
-            self.paths.update({(tag, name): path for tag, name, path in json.loads(data)})
+            self.paths.update(json.loads(data))
 
     def drop(self) -> None:
         """What was written goes."""

@@ -119,12 +119,12 @@ def write_again(path: str, text: str) -> str:
 
 
 def renew(name: str, path: str, text: str) -> Optional[str]:
-    """The same; where that can't be, as its disk is full or away, the text is kept elsewhere, and the old file goes. Returns the path; None
-    where none could be written, and the old file stays as it is."""
-    try:
-        return write_again(path, text)
-    except OSError:
-        elsewhere = keep(name, text)
+    """The same; where that can't be, as its disk is full or away, or the name is another by now, the text is kept elsewhere, and the old
+    file goes. Returns the path; None where none could be written, and the old file stays as it is."""
+    with contextlib.suppress(OSError):
+        if ENDS.sub("", os.path.basename(path)) in (_base(name), f"{_number(name)}-{_base(name)}"):
+            return write_again(path, text)
+    elsewhere = keep(name, text)
     if elsewhere is not None:
         with contextlib.suppress(OSError):
             os.unlink(path)

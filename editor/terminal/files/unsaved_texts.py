@@ -1,10 +1,12 @@
 """What became of the texts: which could not be written, which the host has saved aside, and which have to be written here."""
 import os
 from collections import Counter
+from functools import partial
 from typing import Callable, Dict, List, Optional, Tuple, Union
 
 from . import local_backup
 from .backup_process import BackupProcess
+from .local_backup import COMMAND_LINE, CUT, TYPED
 from ..view.status_line import rank_of, words_of
 from ..text.texts import GAP, Changes
 from sulgrevad import Note, NoteCode, NoteKind
@@ -148,13 +150,12 @@ class UnsavedTexts:
         if has_all and has_ended_well:
             self._dropped.clear()
         lines = [self._kept(name, text, tag) for tag, (name, text) in [*self._dropped.items()]]
-        for tag in self.editor.open_tags:
-            is_saved = has_all and (has_ended_well or self._saved.get(tag) == self._changes[tag])
-            if self.editor.is_changed(tag) and not is_saved:
+        for tag in filter(self.terminal.is_open, self.editor.changed_tags):
+            if not has_all or not (has_ended_well or self._saved.get(tag) == self._changes[tag]):
                 lines.append(self._kept_text(tag, self.name(tag)))
         lines += [self.keep_typed(text, tag) for tag, text in self._typed_ahead().items()]
         begun = "" if has_ended_well else self.editor.begun_line()
-        lines += [self._kept(local_backup.COMMAND_LINE, begun)] if begun else []
+        lines += [self._kept(COMMAND_LINE, begun)] if begun else []
         lines += self._kept_cut(has_all and self.is_cut_saved)
         self._copies.drop()
         return lines
@@ -223,11 +224,10 @@ class UnsavedTexts:
 
     def _keep_all_here(self) -> None:
         editor = self.editor
-        texts = [(tag, self.name(tag), lambda tag=tag: local_backup.loaded(self.terminal, tag))
-                 for tag in editor.open_tags if editor.is_changed(tag)]  # fmt: skip
-        texts += [(None, local_backup.TYPED, lambda: editor.typed_ahead), (None, local_backup.COMMAND_LINE, editor.begun_line)]
-        texts.append((None, local_backup.CUT, lambda: local_backup.told(editor.cut_text)))
-        self._copies.write([((tag, name), text_of) for tag, name, text_of in texts])
+        changed = filter(self.terminal.is_open, editor.changed_tags)
+        texts = [(tag, self.name(tag), partial(local_backup.loaded, self.terminal, tag)) for tag in changed]
+        others = (TYPED, lambda: editor.typed_ahead), (COMMAND_LINE, editor.begun_line), (CUT, lambda: local_backup.told(editor.cut_text))
+        self._copies.write([*texts, *((name, name, text_of) for name, text_of in others)])
 
     def _kept_cut(self, is_saved: bool) -> List[str]:
         """The same of what was cut, unless the host has told that it has saved all of that."""
@@ -235,7 +235,7 @@ class UnsavedTexts:
         if not text or is_saved:
             return []
         lacks = text.count(GAP)
-        lines = [self._kept(local_backup.CUT, local_backup.told(text))]
+        lines = [self._kept(CUT, local_backup.told(text))]
         if lacks:
             lines.append(f"of what was cut {lacks} characters were not loaded: samhost saves all of it, unless it was killed before")
         return lines
@@ -243,7 +243,7 @@ class UnsavedTexts:
     def keep_typed(self, text: str, tag: Optional[int] = None) -> str:
         """The same of what was typed and put in nowhere, for a file or for whichever comes: it is in no text, and so in none's file."""
         known = tag is not None and self.editor.is_users(tag)
-        return self._kept(local_backup.TYPED, text, what=f"what was typed{f' for {self.name(tag)}' if known else ''} and not put in")
+        return self._kept(TYPED, text, what=f"what was typed{f' for {self.name(tag)}' if known else ''} and not put in")
 
     def keep_late(self) -> List[str]:
         """The same of what was typed when the host was lost already: some of it before the user could know."""
@@ -253,7 +253,7 @@ class UnsavedTexts:
     def _kept(self, name: str, text: str, tag: Optional[int] = None, what: str = "", old: Optional[str] = None) -> str:
         """Writes a text here, in the place of an older copy where there is one. Returns what to tell of it."""
         what, which = what or f"what is loaded of {name}".replace("\0", ""), (tag, name, text)
-        old = self._copies.take((tag, name)) or old
+        old = self._copies.take(name if tag is None else tag) or old
         try:
             path = local_backup.keep(name, text) if old is None else local_backup.renew(name, old, text)
         except Exception:  # out of memory, say: the other texts are written
@@ -271,7 +271,7 @@ class UnsavedTexts:
     def _kept_text(self, tag: int, name: str, old: Optional[str] = None) -> str:
         """The same of an open file. Where its text can't be read an older copy stays."""
         try:
-            old = self._copies.take((tag, name)) or old
+            old = self._copies.take(tag) or old
             text = local_backup.loaded(self.terminal, tag)
         except Exception as error:  # whatever it is, the other texts are written
             return self._note_failed((tag, name, ""), f"the text of {name} is lost: {error}", old, lambda: self._kept_text(tag, name, old))

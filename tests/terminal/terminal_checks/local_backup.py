@@ -344,6 +344,25 @@ def check_copy_whose_folder_takes_nothing(folder):
         expect(not editor.keeping.is_hopeless, f"{told}: the status says that a text is lost")
 
 
+def check_copy_of_a_renamed_file(folder):
+    """A command line names the file anew while the host lacks some of its text: the copy goes on under that name. The one before stays
+    until that is written, and no longer."""
+    for has_room in (True, False):
+        pair, editor, copy = with_a_copy(folder, f"room{has_room}")
+        line = editor.way.line
+        line.is_broken = False
+        for each in (pair.keys.Key("Esc"), pair.keys.Text("f other\n"), pair.keys.Key("Esc")):
+            pair.press(each)
+        expect(editor.name(1) == "other", "this test is wrong: the file has its old name")
+        line.is_broken = True
+        with contextlib.nullcontext() if has_room else full(Path("/")):
+            copy_here(editor)
+            editor.lose("the host is gone")
+        there = {path.name: path.read_text() for path in copy.parent.iterdir()}
+        wanted = {"other.sam-here": "xya\n", "command.sam-here": "f other\n"} if has_room else {copy.name: "xa\n"}
+        expect({**there, "command.sam-here": ""} == {**wanted, "command.sam-here": ""}, f"room: {has_room}: there are {there}")
+
+
 def check_copy_that_nothing_replaces(folder):
     """Where no disk has room at the end the copy of some seconds before stays, and is told; once one has, the last text takes its place."""
     pair, editor, copy = with_a_copy(folder, "here")
