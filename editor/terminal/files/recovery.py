@@ -358,24 +358,28 @@ class Choice:
     title, is_box, goes_by_place = "Left of earlier sessions: Enter takes the text, c compares it, d drops it", True, False
 
     def __init__(self, left: Recovery):
-        self.left, self.is_over, self.chosen = left, False, 0
+        self.left, self.is_over, self._chosen = left, False, left.all[0]
+
+    def _at(self, olds: List[Union[Old, Changed]]) -> int:
+        """Where what was chosen stands, as others may come before it; 0 where it is gone."""
+        return olds.index(self._chosen) if self._chosen in olds else 0
 
     def lines(self, height: int) -> List[Tuple[str, bool]]:
-        first = max(0, self.chosen - height + 1)
-        return [(printable(self.left.line(old)), at == self.chosen) for at, old in enumerate(self.left.all)][first : first + height]
+        olds = self.left.all
+        first = max(0, self._at(olds) - height + 1)
+        return [(printable(self.left.line(old)), old == self._chosen) for old in olds][first : first + height]
 
     def take(self, key: Input) -> bool:
         """Returns whether the key is for the windows, as this is over."""
         olds, steps = self.left.all, {"Up": -1, "Down": 1}
         acts = {"\n": self.left.take, "c": self.left.compare, "d": self.left.remove}
-        self.chosen = max(0, min(self.chosen, len(olds) - 1))
-        is_act = isinstance(key, Text) and key.runes in acts
-        if isinstance(key, Key) and key.name in steps:
-            self.chosen = max(0, min(self.chosen + steps[key.name], len(olds) - 1))
-        elif is_act and olds and self.left.editor.is_alone:
+        is_act, is_there = isinstance(key, Text) and key.runes in acts, self._chosen in olds
+        if isinstance(key, Key) and key.name in steps and olds:
+            self._chosen = olds[max(0, min(self._at(olds) + steps[key.name], len(olds) - 1))]
+        elif is_act and is_there and self.left.editor.is_alone:
             self.left.editor.wait_for_line("that can be done only where the host answers")
-        elif is_act and olds:
-            self.is_over = acts[key.runes](olds[self.chosen])
+        elif is_act and is_there:
+            self.is_over = acts[key.runes](self._chosen)
         elif isinstance(key, (Key, Paste, Text)):
             self.is_over = True
         return isinstance(key, (Paste, Text)) and not is_act

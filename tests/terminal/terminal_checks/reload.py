@@ -3,6 +3,7 @@ import os
 import time
 
 from .breaks import expect_joining
+from .pairs import opened
 from .support import STATE, Session, expect, made, wait_for_text, wait_until
 
 OLD = "".join(f"line {number} {'x' * 60}\n" for number in range(1, 2001))
@@ -83,6 +84,22 @@ def check_reload(folder):
         session.leave()
     left = sorted(entry.name for entry in folder.glob("*.sam-*"))
     expect(left == [], f"there are {left}")
+
+
+def check_what_is_chosen_stays_chosen(folder):
+    """While the menu of F9 shows, another program changes a file that comes before the one that was chosen: Enter is for that all the same."""
+    from sulgrevad import NoteKind
+
+    pair, editor, key, text = opened("one\n", "two\n")
+    editor.reloading.meet_changed(2, "file1 was changed")
+    pair.press(key("F9"))
+    editor.reloading.meet_changed(1, "file0 was changed")
+    lines = editor.menu.lines(9)
+    wanted = [("file0: another program changed it", False), ("file1: another program changed it", True)]
+    expect(lines == wanted, f"the menu has {lines}")
+    pair.press(text("\n"))
+    got = [note.tag for note in pair.ends.notes if note.kind == NoteKind.RELOAD]
+    expect(got == [2], f"Enter reloads {got}")
 
 
 def check_reload_asks(folder):
