@@ -7,7 +7,8 @@ from collections import deque
 from typing import Deque, Dict, Iterable, List, NamedTuple, Optional, Set, Tuple, Union
 
 from . import local_backup
-from ..keys.bindings import Input, Key, Mouse, Paste, Text
+from ..keys.bindings import Input, Key, Paste, Text
+from ..view.menus import Lines
 from ..view.status_line import printable
 from ..text.texts import COMMAND, MOST_RUNES
 from ..text.undo import Step
@@ -314,7 +315,7 @@ class Recovery:
             return False
         text = local_backup.read(old.path) if old.path else self._text_of(old.tag)
         lines = differences(self._text_of(old.of), text or "")
-        editor.menu = Differences(f"- {editor.name(old.of)}   + {self.line(old)}", lines)
+        editor.menu = Lines(f"- {editor.name(old.of)}   + {self.line(old)}", [printable(line.expandtabs()) for line in lines])
         return True
 
     def _is_loaded(self, tag: int) -> bool:
@@ -355,7 +356,7 @@ def differences(file: str, other: str) -> List[str]:
 class Choice:
     """The menu of what is left, and of files that another program has changed."""
 
-    title, is_box, goes_by_place = "Left of earlier sessions: Enter takes the text, c compares it, d drops it", True, False
+    title, is_box = "Left of earlier sessions: Enter takes the text, c compares it, d drops it", True
 
     def __init__(self, left: Recovery):
         self.left, self.is_over, self._chosen = left, False, left.all[0]
@@ -383,27 +384,3 @@ class Choice:
         elif isinstance(key, (Key, Paste, Text)):
             self.is_over = True
         return isinstance(key, (Paste, Text)) and not is_act
-
-
-class Differences:
-    """Lines over the windows, which scroll."""
-
-    is_box, goes_by_place = True, False
-
-    def __init__(self, title: str, lines: List[str]):
-        self.title, self._lines, self.is_over, self.first = title, [printable(line.expandtabs()) for line in lines], False, 0
-        self._page = 1
-
-    def lines(self, height: int) -> List[Tuple[str, bool]]:
-        self._page = height
-        self.first = max(0, min(self.first, len(self._lines) - height))
-        return [(line, False) for line in self._lines[self.first : self.first + height]]
-
-    def take(self, key: Input) -> bool:
-        """As the help does."""
-        steps = {"Down": 1, "Up": -1, "Page Down": self._page, "Page Up": -self._page}
-        if isinstance(key, Key) and key.name in steps:
-            self.first = max(0, self.first + steps[key.name])
-        elif not isinstance(key, Mouse):
-            self.is_over = True
-        return isinstance(key, Paste)

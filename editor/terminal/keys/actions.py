@@ -5,13 +5,14 @@ from .command_lines import Commands, line_at
 from .search import Find, nothing_sought
 from ..files.open_requests import Files
 from .bindings import Paste, Text
-from ..view.menus import Help
+from ..view.menus import Lines
 from .motions import Targets
 from .movement import Moves
 from ..text.texts import COMMAND, GAP, MOST_RUNES, Change, Changes
 from ..view.windows import Window
 
 MOST_IN_MENU = 2_000  # files
+HELP_STEP = 5  # lines that an arrow scrolls the help by
 LEAST_ROWS = 4  # rows of the least window, with its title
 MOST_UNDER_A_LOCK = 20_000  # changes that one key makes while their file is locked
 MOST_SENT = 32_000  # bytes of a text that the host takes for what was copied
@@ -117,7 +118,7 @@ class Actions(Commands, Moves):
     # ---- Actions: the screen
 
     def do_help(self) -> None:
-        self.help = Help(self.keys.table())
+        self.help = Lines("Keys", self.keys.table(), HELP_STEP)
 
     def do_switch(self) -> None:
         self.go_to(self.active if self.focus is self.command else self.command)

@@ -1,32 +1,32 @@
-"""What lies over the windows: the menu of files and the help. Each has rows to draw, and takes keys until it is over."""
+"""What lies over the windows: menus, the help, and other lines. Each has rows to draw, and takes keys until it is over."""
 from typing import Callable, List, Tuple
 
 from ..keys.bindings import Input, Key, Mouse, Paste, Text
 
 Line = Tuple[str, bool]  # a text, and whether it is the chosen one
 
-HELP_STEP = 5  # lines that a key scrolls the help by
 MENU_PAGE = 10  # entries that a page key of a menu goes by
 
 
-class Help:
-    """The list of keys, as lines."""
+class Lines:
+    """Lines that scroll, as the list of keys: by so many with the arrows, by a page with the page keys."""
 
-    title, is_box, goes_by_place = "Keys", True, False
+    is_box = True
 
-    def __init__(self, table: List[str]):
-        self._table, self.is_over, self.first = table, False, 0
+    def __init__(self, title: str, lines: List[str], step: int = 1):
+        self.title, self._lines, self._step, self._page = title, lines, step, 1
+        self.is_over, self.first = False, 0
 
     def lines(self, height: int) -> List[Line]:
-        self.first = min(self.first, max(0, len(self._table) - height))
-        return [(line, False) for line in self._table[self.first : self.first + height]]
+        self._page = height
+        self.first = max(0, min(self.first, len(self._lines) - height))
+        return [(line, False) for line in self._lines[self.first : self.first + height]]
 
     def take(self, key: Input) -> bool:
         """Returns whether the key is for the windows, as this is over: so is a paste, of which nothing is to be lost."""
-        if isinstance(key, Key) and key.name in ("Down", "Page Down"):
-            self.first += HELP_STEP
-        elif isinstance(key, Key) and key.name in ("Up", "Page Up"):
-            self.first = max(0, self.first - HELP_STEP)
+        steps = {"Down": self._step, "Up": -self._step, "Page Down": self._page, "Page Up": -self._page}
+        if isinstance(key, Key) and key.name in steps:
+            self.first = max(0, self.first + steps[key.name])
         elif not isinstance(key, Mouse):
             self.is_over = True
         return isinstance(key, Paste)
@@ -36,7 +36,7 @@ class Menu:
     """Entries, each a mark and a name, of which one is chosen; `choose` is told which, as a number from 0, and returns whether the menu is
     over. Those are shown whose names have what was typed in them, in letters of any size."""
 
-    is_box, goes_by_place = True, False
+    is_box = True
 
     def __init__(self, what: str, entries: List[Tuple[str, str]], chosen: int, choose: Callable[[int], bool]):
         self.what, self.entries, self.choose = what, entries, choose
@@ -55,7 +55,7 @@ class Menu:
         return lines + [("", False)] * (min(height, len(self.entries)) - len(lines))
 
     def take(self, key: Input) -> bool:
-        """As the help does."""
+        """As the lines do."""
         steps = {"Up": -1, "Down": 1, "Page Up": -MENU_PAGE, "Page Down": MENU_PAGE}
         if isinstance(key, Key) and key.name in steps:
             self.chosen = max(0, min(self.chosen + steps[key.name], len(self.shown) - 1))
