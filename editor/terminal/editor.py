@@ -63,9 +63,8 @@ class Editor(WindowLayout, KeyQueue, Actions):
         self.log, self.numbers, self.keeping = Undo(terminal, self.texts), Numbers(self.texts), UnsavedTexts(self)
         self.left, self.slices, self.joining, self.reloading = Recovery(self), Prefetch(self), OpenRequests(self), Reload(self)
         told = {Kind.HCLOSE: self._meet_close, Kind.HMOVETO: self._meet_move, Kind.HSETDOT: self._meet_dot}
-        known = self.session_files
-        told.update({Kind.HNEWNAME: known.add, Kind.HMOVNAME: known.rename, Kind.HDELNAME: known.drop})
-        told.update({Kind.HBINDNAME: known.touch, Kind.HDIRTY: known.touch})
+        told.update({Kind.HNEWNAME: self.session_files.sort, Kind.HDELNAME: self.session_files.drop})
+        told.update(dict.fromkeys((Kind.HBINDNAME, Kind.HDIRTY), self.session_files.touched.add))
         self.colours = Colours(self.name, tell=lambda line: self.notes.keep(1, line))
         terminal.told, terminal.settled = told, {Kind.HUNLOCK: self._meet_unlock, Kind.HSETSNARF: self.meet_snarf}
         terminal.give_back, terminal.refuse, terminal.forget_changes = self._take_back, self._tell_refusal, self._forget_changes
@@ -349,7 +348,7 @@ class Editor(WindowLayout, KeyQueue, Actions):
         if self.asked_for is None:
             return len(known) > 1
         asked_for = set(map(printable, self.asked_for))
-        return len(known) != len(asked_for) and any(told not in asked_for for told in self.session_files.names)
+        return len(known) != len(asked_for) and any(printable(self.keeping.name(tag)) not in asked_for for tag in known)
 
     def update(self) -> None:
         """After keys or bytes: files that came or went, keys that waited, what the windows show."""

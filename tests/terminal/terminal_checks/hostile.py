@@ -343,38 +343,31 @@ def check_steps_of_many_names(folder):
 
 
 def check_files_of_many_names(folder):
-    """The files and their names are known as they come, get other ones, share them, are hidden, and go; and thousands of one name cost
-    little."""
+    """The files are known as they come, are hidden, and go; and thousands cost little."""
     from terminal.files.session_files import SessionFiles
 
-    numbers, names, hidden = random.Random(5), {}, set()
-    files = SessionFiles(SimpleNamespace(name=names.__getitem__))
+    numbers, known, hidden = random.Random(5), set(), set()
+    files = SessionFiles(SimpleNamespace(is_known=known.__contains__))
     for _ in range(4000):
         tag, draw = numbers.randrange(12), numbers.random()
-        if draw < 0.2 and tag in names:
-            del names[tag]
+        if draw < 0.2 and tag in known:
+            known.discard(tag)
             hidden.discard(tag)
             files.drop(tag)
         elif draw < 0.25:
             hidden.add(tag)
             files.hide(tag)
-        elif tag in names:
-            names[tag] = numbers.choice(("a", "b", "c\x9b", "~~d", ""))
-            files.rename(tag)
-        else:
-            names[tag] = ""
-            files.add(tag)
-        users = {tag: name for tag, name in names.items() if tag != 0 and tag not in hidden}
-        expect(files.tags == sorted(users) and files.all == set(users), f"the files are {files.tags}, wanted {sorted(users)}")
-        wanted = [(users[tag] or f"unnamed-{tag}").replace("\x9b", "?") for tag in sorted(users)]
-        expect([*files.names] == wanted, f"the names are {[*files.names]}, wanted {wanted}")
-    names.update(dict.fromkeys(range(1, MANY_NAMES), "a"))
+        elif tag not in known:
+            known.add(tag)
+            files.sort(tag)
+        users = known - hidden - {0}
+        expect(files.tags == sorted(users) and files.all == users, f"the files are {files.tags}, wanted {sorted(users)}")
+    known.update(range(1, MANY_NAMES))
     before = time.process_time()
     for tag in range(1, MANY_NAMES):
-        files.add(tag)
-        files.rename(tag)
+        files.sort(tag)
     cost, slowness = time.process_time() - before, max(1, least_loop() / QUIET_LOOP)
-    expect(cost < slowness, f"{MANY_NAMES} files of a name cost {cost:.1f} s of the processor, {slowness:.1f} times slowed")
+    expect(cost < slowness, f"{MANY_NAMES} files cost {cost:.1f} s of the processor, {slowness:.1f} times slowed")
 
 
 def check_long_lines_of_words(folder):
