@@ -200,7 +200,7 @@ class KeyQueue:
         is_retry = self.action_of(pressed.key) == "redraw" and self.way.is_known_late
         if self.bound(pressed.key).waits != NOTHING and not is_retry:
             return False
-        self.notes.take(pressed.has_read)
+        self.notes.take(pressed.read)
         if is_retry:
             self.wishes.append("connect")
         else:

@@ -1,4 +1,5 @@
 """Keys that move the caret, or what a window shows. Where they lead stands in motions.py."""
+from functools import partialmethod
 
 
 class Moves:
@@ -7,35 +8,16 @@ class Moves:
     def _move(self, action: str, extends: bool) -> None:
         self.focus.select(getattr(self.focus.targets, action)(extends), extends)
 
-    def do_left(self, extends: bool) -> None:
-        self._move("left", extends)
-
-    def do_right(self, extends: bool) -> None:
-        self._move("right", extends)
-
-    def do_word_left(self, extends: bool) -> None:
-        self._move("word_left", extends)
-
-    def do_word_right(self, extends: bool) -> None:
-        self._move("word_right", extends)
-
     def _by_row(self, action: str, extends: bool) -> None:
         """To the row above or below, in the column that such moves keep to."""
         column = self.focus.targets.column()
         self._move(action, extends)
         self.focus.goal = (column, self.focus.caret)
 
-    def do_up(self, extends: bool) -> None:
-        self._by_row("up", extends)
-
-    def do_down(self, extends: bool) -> None:
-        self._by_row("down", extends)
-
-    def do_home(self, extends: bool) -> None:
-        self._move("home", extends)
-
-    def do_end(self, extends: bool) -> None:
-        self._move("end", extends)
+    do_left, do_right = partialmethod(_move, "left"), partialmethod(_move, "right")
+    do_word_left, do_word_right = partialmethod(_move, "word_left"), partialmethod(_move, "word_right")
+    do_home, do_end = partialmethod(_move, "home"), partialmethod(_move, "end")
+    do_up, do_down = partialmethod(_by_row, "up"), partialmethod(_by_row, "down")
 
     def do_first(self) -> None:
         self.focus.select(0)

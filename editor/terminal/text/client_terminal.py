@@ -7,7 +7,7 @@ from functools import partialmethod
 from typing import Callable, Deque, Dict, Iterator, List, Optional, Sequence, Tuple
 
 from .text_copy import Edit, TextCopy
-from .texts import COMMAND, GAP, MOST_RUNES, MOST_TYPED, Change, Changes
+from .texts import COMMAND, GAP, MOST_RUNES, MOST_TYPED, Change, Changes, moved
 from sulgrevad import Client, ClientEvent, ClientEventKind, Dropped, EditRefused, EventKind, FileState, Kind, NoteKind, Replacement
 from sulgrevad import SamError, ShownEdit, Splice, SpliceKind, Status, Step, TerminalDid, TerminalState, TooMany, Waiting
 
@@ -17,14 +17,6 @@ NAMING = (Kind.HNEWNAME, Kind.HMOVNAME, Kind.HDELNAME)  # frames that change a n
 WENT, FILLED = int(SpliceKind.WENT), int(SpliceKind.FILLED)
 
 Told = Dict[int, Callable[[int], None]]
-
-
-def moved(place: int, start: int, gone: int, came: int) -> int:
-    """Where a place stands after a change."""
-    if place <= start:
-        return place
-    place = max(start, place - gone)
-    return place if place == start else place + came
 
 
 def place_after(splice: Splice, later: Sequence[Splice]) -> int:

@@ -10,6 +10,14 @@ MOST_RUNES = 1_000_000  # of a text
 MOST_TYPED = 512  # runes of the command file that are typed by one request
 
 
+def moved(place: int, start: int, gone: int, came: int) -> int:
+    """Where a place stands after a change."""
+    if place <= start:
+        return place
+    place = max(start, place - gone)
+    return place if place == start else place + came
+
+
 class Change(NamedTuple):
     """`came` stands where `gone` stood; GAP in them for what is not known."""
 
@@ -20,10 +28,7 @@ class Change(NamedTuple):
 
     def moved(self, place: int) -> int:
         """Where a place stands afterwards."""
-        if place <= self.place:
-            return place
-        place = max(self.place, place - len(self.gone))
-        return place if place == self.place else place + len(self.came)
+        return moved(place, self.place, len(self.gone), len(self.came))
 
 
 PLACE_OF, GONE_OF, CAME_OF = (itemgetter(Change._fields.index(name)) for name in ("place", "gone", "came"))
@@ -46,9 +51,7 @@ class Changes:
     def moved(self, place: int) -> int:
         """Where a place stands after them."""
         for start, gone, came in zip(self.places, self.gone, self.came):
-            if place > start:
-                place = max(start, place - gone)
-                place += came if place > start else 0
+            place = moved(place, start, gone, came)
         return place
 
 

@@ -12,7 +12,7 @@ from typing import Dict, Iterable, List, NamedTuple, Optional, Sequence, Tuple
 
 from .colours import Spans, painted
 from ..editor import Editor
-from .layout import Row, Strip, fitted, has_wide, line_start
+from .layout import Row, Strip, fitted, has_wide
 from ..line.persistent_session import PersistentSession
 from .status_line import printable
 from .windows import Window
@@ -236,10 +236,6 @@ def changed_rows(before: Parts, parts: Parts, foot: int) -> Optional[Dict[int, L
     return frame
 
 
-def frame_of(editor: Editor, rows: int, columns: int) -> Dict[int, List[Run]]:
-    return joined(parts_of(editor, rows, columns), rows)
-
-
 @lru_cache(maxsize=64)
 def lines_of(message: str, columns: int, rows: int) -> Sequence[str]:
     """A message in as many rows as it takes, but no more than half of them."""
@@ -268,12 +264,8 @@ class Drawn:
         self.changed: List[int] = []  # these rows
 
 
-def window_rows(editor: Editor, window: Window) -> Dict[int, List[Run]]:
-    """The title of a window and its rows, by the row of the screen."""
-    return drawn_of(editor, window).frame
-
-
 def drawn_of(editor: Editor, window: Window) -> Drawn:
+    """The title of a window and its rows."""
     is_focus, tag, (dot, _, layout) = window is editor.shown_focus, window.tag, window.look()
     title = f"{'>' if is_focus else ' '}{'*' if editor.is_changed(tag) else ' '} {editor.name(tag)}"
     by: tuple = (title, is_focus, window.y, window.width, window.gutter, window.is_row)

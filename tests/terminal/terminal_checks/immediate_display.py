@@ -90,7 +90,7 @@ def shown(pair, *windows):
     editor = pair.editor
     rows = {}
     for window in windows or editor.windows:
-        rows.update(pair.screen.window_rows(editor, window))
+        rows.update(pair.screen.drawn_of(editor, window).frame)
     return rows, pair.screen.cursor_of(editor)
 
 

@@ -91,7 +91,7 @@ def check_keys_after_close(folder):
 def check_title_at_the_start(folder):
     """The command window has its title before the host has told its name."""
     pair = Pair(random.Random(1), ["a\n"])
-    (text, _), = pair.screen.window_rows(pair.editor, pair.editor.command)[0]
+    (text, _), = pair.screen.drawn_of(pair.editor, pair.editor.command).frame[0]
     expect(text.rstrip() == ">  ~~sam~~", f"the title is {text!r}")
 
 

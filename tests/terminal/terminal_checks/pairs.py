@@ -189,7 +189,7 @@ class Pair:
         self.editor.update()
         self.send()
         for window in self.editor.windows:
-            self.screen.window_rows(self.editor, window)
+            self.screen.drawn_of(self.editor, window)
         self.screen.cursor_of(self.editor)
 
     def pause(self):

@@ -77,7 +77,7 @@ def check_tiny_screen(folder):
         for window, title, line in ((editor.command, "~~sam~~", ""), (first, "file0", "a"), (second, "file1", "c")):
             editor.go_to(window)
             pair.finish()
-            frame = pair.screen.frame_of(editor, rows + 2, 20)
+            frame = pair.screen.joined(pair.screen.parts_of(editor, rows + 2, 20), rows + 2)
             shown = ["".join(part for part, _ in frame.get(y, [])).rstrip() for y in range(rows)]
             at = shown.index(f">  {title}")
             expect(shown[at + 1] == line, f"{rows} rows: below the title of {title} it shows {shown}")
