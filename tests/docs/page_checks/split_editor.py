@@ -480,22 +480,6 @@ def check_split_editor_in_c_is_safe(folder):
     expect_equal(lines[at + 1], f"sync {folder}")
 
 
-def check_split_editor_host_ends(folder):
-    """A host that is interrupted tells its terminal, which prints its text."""
-    pair = in_python(folder)
-    pair = pair._replace(host=["env", "--default-signal=INT", *pair.host])  # who runs this in the background may have it ignored
-    with served(folder, pair, "Shopping\n") as line, shown(folder, pair) as screen:
-        screen.wait_for("Shopping\n")
-        screen.tmux("set", "-g", "remain-on-exit", "on")
-        screen.type("now ")
-        screen.wait_for("now Shopping\n")
-        line.host.process.send_signal(signal.SIGINT)
-        line.host.process.wait(SECONDS)
-        words = "its host has ended the session:\nnow Shopping"
-        wait_until(lambda: words in "\n".join(screen.lines), lambda: "it doesn't print its text:\n" + "\n".join(screen.lines))
-        line.host.start()
-
-
 def check_split_editor_has_one_host(folder):
     has_one_host(folder, in_python(folder))
 
