@@ -1,5 +1,5 @@
 /* The editor: the session, what CodeMirror shows of its files, and what the user does. */
-import { Client, EditRefused, NoMemory, NoteCode, NoteKind, NotText, RequestRefused, SamError, Status } from "./sulgrevad/sulgrevad.js";
+import { Client, NoteCode, NoteKind, RequestRefused, SamError, Status } from "./sulgrevad/sulgrevad.js";
 import { Input } from "./input.js";
 import { runesOf } from "./shown_text.js";
 import { Undo } from "./undo.js";
@@ -115,7 +115,7 @@ export class Editor {
 
   /** Whether there is no line, or an answer is late. */
   get isLate() {
-    if (this.session === null) return false;
+    if (this.session === null || this.isOver) return false;
     const { silence, roundTrip } = this.session.line;
     return this.isBroken || silence >= LATE_AFTER + 2 * roundTrip;
   }
@@ -254,12 +254,10 @@ export class Editor {
     }
   }
 
-  /** Tells why something is not done; of the end of the session all is told elsewhere. */
+  /** Tells why something is not done. */
   #sayWhy(error) {
-    if (this.session.isOver) return;
-    if (!(error instanceof SamError)) throw error;
-    const isKnown = error instanceof EditRefused || error instanceof NoMemory || error instanceof NotText;
-    this.say(isKnown ? (WHY[error.code] ?? error.message) : error.message);
+    if (!(error instanceof SamError || this.session.isOver)) throw error;
+    this.say(this.session.isOver ? WHY[Status.REFUSAL_EXITED] : (WHY[error.code] ?? error.message));
   }
 
   #undoOf(tag) {
@@ -321,7 +319,7 @@ export class Editor {
       await this.session.write(tag);
     } catch (error) {
       isWarned = error instanceof RequestRefused && REPLACING.includes(error.note.code);
-      if (error instanceof SamError) this.#sayWhy(error);
+      if (!(error instanceof RequestRefused)) this.#sayWhy(error);
     }
     const isNext = this.#writes.get(tag);
     this.#writes.delete(tag);
@@ -382,7 +380,7 @@ export class Editor {
 
   /** Has the user asked whether the session is to end, behind the keys that wait and the writes that are to follow others. */
   end(ask) {
-    this.press("ending", ask, { isOfNoFile: true, isReady: () => !this.#isWriteHeld });
+    this.press("ending", ask, { isOfNoFile: true, isReady: () => !this.isOver && !this.#isWriteHeld });
   }
 
   /** The user leaves: the session ends. */
@@ -401,7 +399,8 @@ export class Editor {
     if (this.#isUpdating || this.session === null) return;
     this.#isUpdating = true;
     try {
-      if (!this.isOver) this.#goOn();
+      if (this.isOver) this.waiting.goOn();
+      else this.#goOn();
     } catch (error) {
       this.#sayWhy(error);
     } finally {
@@ -467,7 +466,11 @@ export class Editor {
   /** The session can't go on. What is loaded can still be read and copied. */
   lose(why) {
     if (this.isOver) return;
+    const { typed } = this.waiting;
     this.isOver = true;
+    this.waiting = new Waiting(this);
+    if (typed !== "") this.page.giveBack("what you typed at last is put in nowhere", typed);
+    this.showChanges();
     this.page.lose(why);
   }
 }

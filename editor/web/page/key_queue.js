@@ -24,7 +24,7 @@ export class Waiting {
 
   /** Whether a change of the document is one of an action, or may be one because nothing waits. */
   get isOpenTo() {
-    return this.#isActing || (this.#actions.length === 0 && this.editor.isShowing);
+    return this.editor.isShowing && (this.#isActing || this.#actions.length === 0);
   }
 
   /** What was pressed last, if it waits and is of this kind: more of the same may be added to it. */
@@ -41,7 +41,7 @@ export class Waiting {
     queueMicrotask(() => this.editor.update());
   }
 
-  /** Does what was pressed, up to the first action that has to wait. */
+  /** Does what was pressed, up to the first action that has to wait. Once the session is over none waits: what can't be done never will. */
   goOn() {
     if (this.#isActing) return;
     this.#noteLate();
@@ -52,14 +52,15 @@ export class Waiting {
         if (this.#act(action) !== AGAIN) continue;
         this.#actions.unshift(action);
       }
-      if (!this.#isKnownLate || this.#isNeeded(action) || !this.#isTold(action)) return;
+      if (this.editor.isOver) this.editor.say(`${action.name} can't be done any more`);
+      else if (!this.#isKnownLate || this.#isNeeded(action) || !this.#isTold(action)) return;
       this.#actions.shift();
       action.giveUp?.();
     }
   }
 
   #mayAct({ isOfNoFile, isReady }) {
-    return (isOfNoFile || this.editor.isShowing) && (isReady?.() ?? true);
+    return (isOfNoFile || this.editor.active !== null) && (isReady?.() ?? true);
   }
 
   /** What was typed and waits. */

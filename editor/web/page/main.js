@@ -125,7 +125,6 @@ class Page {
 
   #meetEnd(why) {
     const { status = null, code = null } = why;
-    this.editor.showChanges();
     if (why instanceof SessionOver && status !== null) keepNames();
     if (GONE.includes(code) || status === STATUS_LOST) this.copies.keepAll();
     this.editor.lose(wordsOf(why));
