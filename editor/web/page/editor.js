@@ -44,7 +44,7 @@ export class Editor {
   #writes = new Map(); // of each file of which a write is not answered, whether another one is to follow
   #warnedAt = new Map(); // when the user was told of each file that its next write replaces another program's text
   #isLoading = false; // text is asked for that a key needs
-  #hasChanged = false; // the user has changed a text since the host was known to have all
+  #hasChanged = false; // the user has changed or written a text since the host was known to have all
   #isUpdating = false;
   #timer = 0;
   #wakesAt = Infinity;
@@ -130,10 +130,10 @@ export class Editor {
     return [...this.#writes.values()].includes(true);
   }
 
-  /** Whether that may be a change of the user's, or a write of one. */
+  /** Whether that may be a change of the user's, a write of one, or a key that waits. */
   get lacksChanges() {
     this.#hasChanged &&= this.lacks;
-    return this.#hasChanged || this.#isWriteHeld || this.waiting.typed !== "";
+    return this.#hasChanged || this.waiting.count > 0;
   }
 
   /** Whether the user rests, and nothing is under way. */
@@ -313,6 +313,7 @@ export class Editor {
       this.#writes.set(tag, true);
       return;
     }
+    this.#hasChanged = true;
     this.#writes.set(tag, false);
     let isWarned = false;
     try {
