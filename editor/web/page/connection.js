@@ -22,8 +22,7 @@ async function proof(...words) {
 }
 
 /** Where this browser keeps what the session of this address may be named: a word that doesn't tell the token. */
-export const PLACE = (await proof("place")).slice(0, 32);
-const NAMES_KEY = `session ${PLACE}`;
+const NAMES_KEY = `session ${(await proof("place")).slice(0, 32)}`;
 
 /** The names that the session of this address may have, the likeliest first; none where there is none. */
 export function sessionNames() {

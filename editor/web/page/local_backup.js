@@ -1,9 +1,8 @@
 /* Copies of changed texts in this browser, as long as the host may lack some of what was done here, or could save a text nowhere: so that
  * not even a browser that ends loses them. */
-import { SHADE } from "./shown_text.js";
 import { NoteCode, NoteKind } from "./sulgrevad/sulgrevad.js";
 
-const SHADE_OF_COPY = "\u2591"; // marks a gap in a copy
+const GAP = "\u2591\n"; // stands in a copy for text that isn't loaded
 const FRONT = "sulgrevad ";
 const TYPED = "typed.txt"; // the name of a copy of what was typed, and is in no file
 const OF_TEXTS = [NoteKind.SAVED, NoteKind.NOT_SAVED, NoteKind.ASIDE, NoteKind.LOST];
@@ -15,12 +14,10 @@ export class Copies {
   #unsaved = new Set(); // files whose text the host could save nowhere
   #isLast = false; // the copies of now stay
 
-  /** `place` is what the address of the session has: copies of other sessions are not seen. The keys of this page begin with a word of its
-   * own: what another page keeps of the same file is another text. */
-  constructor(editor, place) {
+  /** The keys of this page begin with a word of its own: what another page keeps of the same file is another text. */
+  constructor(editor) {
     this.editor = editor;
-    this.front = `${FRONT}${place} `;
-    this.own = `${this.front}${crypto.randomUUID()} `;
+    this.own = `${FRONT}${crypto.randomUUID()} `;
   }
 
   /** A message of the host. It may tell that the text of a file is saved, in the file or beside it; or that it is nowhere. */
@@ -60,7 +57,7 @@ export class Copies {
     const [when, copies] = [Date.now(), []];
     for (const [tag, view] of editor.views) {
       if (!editor.isChanged(tag) || !(isOfAll || this.#unsaved.has(tag))) continue;
-      const text = view.shown.text(0, view.shown.runes).replaceAll(SHADE, SHADE_OF_COPY);
+      const text = view.shown.pieces.map((piece) => (piece.isGap ? GAP : piece.text)).join("");
       copies.push({ key: `${this.own}file ${tag}`, name: editor.nameOf(tag), when, text });
     }
     const { typed } = editor.waiting;
@@ -82,11 +79,11 @@ export class Copies {
     }
   }
 
-  /** The copies that other pages left, oldest first: of each its name, when it was made, and its text. They stay until the user drops
-   * them. */
+  /** The copies that other pages left, those of other sessions among them, oldest first: of each its name, when it was made, and its text.
+   * They stay until the user drops them. */
   get left() {
     const keys = Array.from({ length: localStorage.length }, (_, at) => localStorage.key(at));
-    const left = keys.filter((key) => key.startsWith(this.front) && !key.startsWith(this.own));
+    const left = keys.filter((key) => key.startsWith(FRONT) && !key.startsWith(this.own));
     const copies = left.map((key) => ({ key, ...JSON.parse(localStorage.getItem(key)) }));
     return copies.sort((one, other) => one.when - other.when);
   }

@@ -1,6 +1,6 @@
 /* The page: its parts, its keys, and the session that its address has. */
 import { finder } from "./start.js";
-import { PLACE, keepNames } from "./connection.js";
+import { keepNames } from "./connection.js";
 import { Copies } from "./local_backup.js";
 import { Editor } from "./editor.js";
 import { Find } from "./search.js";
@@ -59,7 +59,7 @@ class Page {
     this.editor = new Editor(CodeMirror, this.cm, this);
     this.find = new Find(this.editor, part("finding"), part("pattern"));
     this.opening = new Opening(this.editor, this.find, part("opening"), part("path"), part("paths"));
-    this.copies = new Copies(this.editor, PLACE);
+    this.copies = new Copies(this.editor);
     document.addEventListener("click", ({ target }) => this.#meetClick(target));
     document.addEventListener("keydown", (event) => this.#meetKey(event));
     addEventListener("beforeunload", (event) => this.#meetLeaving(event));
