@@ -25,13 +25,19 @@ async function proof(...words) {
 const NAMES_KEY = `session ${(await proof("place")).slice(0, 32)}`;
 
 /** The names that the session of this address may have, the likeliest first; none where there is none. */
-export function sessionNames() {
-  return (localStorage.getItem(NAMES_KEY) ?? "").split(" ").filter((name) => name !== "");
+function sessionNames() {
+  const names = localStorage.getItem(NAMES_KEY) || sessionStorage.getItem(NAMES_KEY) || "";
+  return names.split(" ").filter((name) => name !== "");
 }
 
+/** Keeps them: where copies have taken all the room, for this tab alone. */
 export function keepNames(...names) {
-  if (names.length > 0) localStorage.setItem(NAMES_KEY, names.join(" "));
-  else localStorage.removeItem(NAMES_KEY);
+  try {
+    localStorage.setItem(NAMES_KEY, names.join(" "));
+    sessionStorage.removeItem(NAMES_KEY);
+  } catch {
+    sessionStorage.setItem(NAMES_KEY, names.join(" "));
+  }
 }
 
 export function newId() {
