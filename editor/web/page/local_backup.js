@@ -5,10 +5,30 @@ import { NoteCode, NoteKind } from "./sulgrevad/sulgrevad.js";
 const GAP = "\u2591\n"; // stands in a copy for text that isn't loaded
 const FRONT = "sulgrevad ";
 const TYPED = "typed.txt"; // the name of a copy of what was typed, and is in no file
+const SINCE = " since"; // behind the key of a copy: how its text has changed since
 const OF_TEXTS = [NoteKind.SAVED, NoteKind.NOT_SAVED, NoteKind.ASIDE, NoteKind.LOST];
+
+/** Which stretch of a text has to give way to which other one, so that it becomes another. */
+function difference(text, other) {
+  const most = Math.min(text.length, other.length);
+  let [start, behind] = [0, 0];
+  while (start < most && text.charCodeAt(start) === other.charCodeAt(start)) start++;
+  while (behind < most - start && text.at(-1 - behind) === other.at(-1 - behind)) behind++;
+  return { start, end: text.length - behind, came: other.slice(start, other.length - behind) };
+}
+
+/** Returns a copy, as it was put last. */
+function read(key) {
+  const copy = JSON.parse(localStorage.getItem(key));
+  const since = JSON.parse(localStorage.getItem(key + SINCE));
+  if (since?.of !== copy.when) return { key, ...copy };
+  const { start, end, came, when } = since;
+  return { key, name: copy.name, when, text: copy.text.slice(0, start) + came + copy.text.slice(end) };
+}
 
 export class Copies {
   #kept = new Map(); // copies that this page makes as long as they are due: their texts by their keys
+  #whole = new Map(); // those of them that stand in the browser as a whole, by their keys
   #refused = new Set(); // keys of copies for which the browser had no room
   #asideCount = 0; // texts that were set aside
   #unsaved = new Set(); // files whose text the host could save nowhere
@@ -68,10 +88,18 @@ export class Copies {
     for (const key of before.keys()) if (!this.#kept.has(key)) this.drop({ key });
   }
 
-  /** Puts a copy in the place of the one before. */
+  /** Puts a copy in the place of the one before: as a whole once, and then what has changed since. Browsers put no more than so many bytes
+   * an hour on the disk: whole copies of a long text would come there minutes later, and a browser that is killed loses them. */
   #put({ key, ...copy }) {
+    const whole = key in localStorage ? this.#whole.get(key) : undefined;
+    const change = whole && difference(whole.text, copy.text);
     try {
-      localStorage.setItem(key, JSON.stringify(copy));
+      if (change && change.came.length <= whole.text.length / 2) {
+        localStorage.setItem(key + SINCE, JSON.stringify({ of: whole.when, when: copy.when, ...change }));
+      } else {
+        localStorage.setItem(key, JSON.stringify(copy));
+        this.#whole.set(key, copy);
+      }
       this.#refused.delete(key);
     } catch {
       this.#refused.add(key);
@@ -83,13 +111,12 @@ export class Copies {
    * They stay until the user drops them. */
   get left() {
     const keys = Array.from({ length: localStorage.length }, (_, at) => localStorage.key(at));
-    const left = keys.filter((key) => key.startsWith(FRONT) && !key.startsWith(this.own));
-    const copies = left.map((key) => ({ key, ...JSON.parse(localStorage.getItem(key)) }));
-    return copies.sort((one, other) => one.when - other.when);
+    const left = keys.filter((key) => key.startsWith(FRONT) && !key.startsWith(this.own) && !key.endsWith(SINCE));
+    return left.map(read).sort((one, other) => one.when - other.when);
   }
 
   drop({ key }) {
-    localStorage.removeItem(key);
+    for (const part of [key, key + SINCE]) localStorage.removeItem(part);
     this.#refused.delete(key);
   }
 }
