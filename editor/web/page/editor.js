@@ -18,7 +18,6 @@ const TICK = 1000; // until it is seen how the line is, while something is due
 
 const WHY = {
   [Status.NO_MEMORY]: "there is not enough memory",
-  [Status.NOT_TEXT]: "that is no text",
   [Status.REFUSAL_TOO_LONG]: "the file would have more than 1,000,000 characters",
   [Status.REFUSAL_NO_FILE]: "there is no such file any more",
   [Status.REFUSAL_NOT_OPEN]: "the file is not open",

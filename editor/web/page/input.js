@@ -139,6 +139,11 @@ export class Input {
   #meetChange(change) {
     const { editor } = this;
     if (change.origin === OURS) return;
+    if (!change.text.every((line) => line.isWellFormed() && !line.includes("\0"))) {
+      change.cancel(); // places are no places in half of a pair of surrogates, and the host opens no file that has a zero
+      editor.say("that is no text");
+      return;
+    }
     const { from, to } = change;
     if (change.origin === "paste") change.update(from, to, change.text.map((line) => line.replace(/\r$/, "")));
     const isOpen = editor.waiting.isOpenTo && !this.#composesAside;
