@@ -29,8 +29,13 @@ function allKeys(CodeMirror, name, found = {}) {
   return found;
 }
 
-/** Whether a key's event is that of a sign. */
+export function isPasting({ key, ctrlKey, metaKey, shiftKey }) {
+  return ((ctrlKey || metaKey) && key.toLowerCase() === "v") || (shiftKey && key === "Insert");
+}
+
+/** Whether a key's event is that of a sign, or what was pasted. */
 export function isText(event) {
+  if (event.isPasted) return true;
   const isAlone = !event.ctrlKey && !event.altKey && !event.metaKey;
   return [...event.key].length === 1 && (isAlone || event.getModifierState("AltGraph"));
 }

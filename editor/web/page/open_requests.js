@@ -1,5 +1,5 @@
 /* The menu of files: those of the session, and what the host has whose path begins as it is typed. */
-import { isText, replayIn } from "./input.js";
+import { isPasting, isText, replayIn } from "./input.js";
 import { AGAIN } from "./key_queue.js";
 import { NoteCode, NoteKind, RequestRefused } from "./sulgrevad/sulgrevad.js";
 
@@ -24,6 +24,7 @@ export class Opening {
     Object.assign(this, { editor, find, box, field, list });
     field.addEventListener("input", () => this.#narrow());
     field.addEventListener("keydown", (event) => this.#meetKey(event));
+    field.addEventListener("paste", (event) => this.#meetPaste(event));
     field.addEventListener("blur", () => this.#meetBlur());
     list.addEventListener("mousedown", (event) => event.preventDefault()); // the field keeps the keyboard
     list.addEventListener("click", ({ target }) => this.#meetClick([...list.children].indexOf(target)));
@@ -49,10 +50,18 @@ export class Opening {
       if (this.#press(event)) event.preventDefault();
       return;
     }
+    if (isPasting(event)) return; // what comes by it waits
     event.preventDefault();
     this.#held.push(event);
     clearInterval(this.#timer);
     this.#timer = setInterval(() => this.#replay(), LOOK_AGAIN);
+  }
+
+  /** What is pasted behind keys that wait goes where they lead. */
+  #meetPaste(event) {
+    if (this.#held.length === 0) return;
+    event.preventDefault();
+    this.#held.push({ key: event.clipboardData.getData("text/plain").replaceAll("\r\n", "\n"), isPasted: true });
   }
 
   /** Whether a key goes by names that are still to come. */
