@@ -245,7 +245,7 @@ export class Opening {
   }
 
   #meetNames(names, hasMore) {
-    this.#names = names.split("\n").filter((name) => name !== "");
+    this.#names = names.split("\n").filter((name) => name !== "" && !name.includes("\ufffd")); // others can't be asked for
     this.#hasMore = hasMore;
     const typed = this.#entries.findIndex(({ path }) => path === this.field.value);
     if (typed >= 0 && this.#names.includes(this.field.value.slice(this.#folder.length))) this.#chosen = typed;
