@@ -48,20 +48,33 @@ export function nameOf(id) {
   return digits(id.subarray(0, NAME_BYTES));
 }
 
+/** Tells somebody what happens, by the name of one of his calls, and what has happened before he heard. */
+export class Teller {
+  #early = [];
+  #heard = null;
+
+  tell(event, what) {
+    if (this.#heard === null) this.#early.push([event, what]);
+    else this.#heard[event](what);
+  }
+
+  hear(heard) {
+    this.#heard = heard;
+    for (const [event, what] of this.#early.splice(0)) heard[event](what);
+  }
+}
+
 /** The code with which samweb closes a socket whose page doesn't have its token. */
 export const UNKNOWN = 1008;
 
 /** One connection, as a WebSocket looks to a session. It is open once samweb and the page have proved to each other that they have the
- * token. `ontold` is called with each line of samweb for people, and `onended` with the code with which it was closed; what comes before
- * somebody hears it is kept. */
-export class Connection {
+ * token. It tells each line of samweb for people (`told`), and the code with which it was closed (`ended`). */
+export class Connection extends Teller {
   #socket;
   #isKnown = false;
   #theirs = ""; // samweb's nonce
   #behind = null; // what came behind its proof, while that is looked at
   #nonce = digits(crypto.getRandomValues(new Uint8Array(NONCE_BYTES)));
-  #early = []; // lines for people, and a code, that nobody has heard
-  #heard = null;
 
   onopen = null;
   onmessage = null;
@@ -69,6 +82,7 @@ export class Connection {
 
   /** For a session of this name: `verb` says whether it begins (serve), goes on (attach), or is taken over (take). */
   constructor(verb, name) {
+    super();
     const address = new URL("line", location.href);
     address.protocol = address.protocol.replace("http", "ws");
     address.hash = "";
@@ -81,7 +95,7 @@ export class Connection {
       else this.#behind.push(data);
     };
     this.#socket.onclose = ({ code }) => {
-      this.#tell("ended", code);
+      this.tell("ended", code);
       this.onclose?.();
     };
   }
@@ -97,7 +111,7 @@ export class Connection {
   async #meetProof(theirs) {
     this.#behind = [];
     if (theirs !== (await proof("server", this.#nonce, this.#theirs))) {
-      this.#tell("told", "another program than samweb answers at this address; it gets no text");
+      this.tell("told", "another program than samweb answers at this address; it gets no text");
       this.#socket.close();
       return;
     }
@@ -107,19 +121,8 @@ export class Connection {
   }
 
   #take(data) {
-    if (typeof data === "string") this.#tell("told", data);
+    if (typeof data === "string") this.tell("told", data);
     else this.onmessage?.({ data });
-  }
-
-  #tell(event, what) {
-    if (this.#heard === null) this.#early.push([event, what]);
-    else this.#heard[event](what);
-  }
-
-  /** From now on has `told` and `ended` of this called, also with what has come before. */
-  hear(heard) {
-    this.#heard = heard;
-    for (const [event, what] of this.#early.splice(0)) heard[event](what);
   }
 
   get readyState() {
@@ -137,7 +140,7 @@ export class Connection {
 
   /** Ends it; nothing more of it is heard. */
   close() {
-    this.#heard = { told() {}, ended() {} };
+    this.hear({ told() {}, ended() {} });
     this.#socket.close();
   }
 }

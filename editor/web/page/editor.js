@@ -7,7 +7,6 @@ import { View } from "./view.js";
 import { AGAIN, READ_AFTER, Waiting } from "./key_queue.js";
 
 const COMMAND = 0; // the tag of the command file
-const ALL_TAGS = 65_536; // of a session
 const REACH = 4096; // runes that are loaded for a key that goes by text which isn't
 const REPLACING = [NoteCode.CHANGED_SINCE, NoteCode.EXISTS_ALREADY]; // why a write failed that would have replaced another program's text
 
@@ -50,12 +49,8 @@ export class Editor {
 
   /** `page` is told what to draw: its `draw` after each change, its `say` of a word for the user. */
   constructor(CodeMirror, cm, page) {
-    this.CodeMirror = CodeMirror;
-    this.cm = cm;
-    this.page = page;
+    Object.assign(this, { CodeMirror, cm, page });
     this.waiting = new Waiting(this);
-    this.keys = page.keys;
-    Input.define(CodeMirror, this);
     this.input = new Input(CodeMirror, cm, this);
     cm.on("scroll", () => this.#wake(0));
     cm.on("cursorActivity", () => page.draw());
@@ -82,10 +77,6 @@ export class Editor {
     return !this.isOver && this.active !== null;
   }
 
-  get isComposing() {
-    return this.input.isComposing;
-  }
-
   /** The user's files. */
   get tags() {
     const tags = Array.from({ length: this.client.state().tags }, (_, tag) => tag);
@@ -94,7 +85,7 @@ export class Editor {
 
   /** The host has told that it keeps a file for terminals. */
   hide(tag) {
-    if (tag < ALL_TAGS) this.#hidden.add(tag);
+    this.#hidden.add(tag);
   }
 
   nameOf(tag) {
@@ -137,7 +128,7 @@ export class Editor {
 
   /** Whether the user rests, and nothing is under way. */
   get isAtRest() {
-    const isQuiet = !this.isOver && !this.session.isWaiting && this.waiting.count === 0 && !this.isComposing && !this.isLate;
+    const isQuiet = !this.isOver && !this.session.isWaiting && this.waiting.count === 0 && !this.input.isComposing && !this.isLate;
     return isQuiet && performance.now() - this.keyAt >= AT_REST;
   }
 
@@ -217,17 +208,10 @@ export class Editor {
   take({ from, removed, text, origin }) {
     const [gone, came] = [removed.join("\n"), text.join("\n")];
     const { active: view } = this;
-    const { start } = view.take(from, gone, came);
-    const end = start + runesOf(gone);
+    const { start, end } = view.take(from, gone, came);
     if (this.#edit(view, start, end, came)) this.#undoOf(view.tag).note(kindOf(origin), start, gone, came);
-    else this.#showAsIs(view, start, end);
+    else view.renew(start, end);
     this.#wake(0);
-  }
-
-  /** A change was not made as CodeMirror shows it: what was selected is selected again. */
-  #showAsIs(view, start, end) {
-    view.renew();
-    view.select(start, end);
   }
 
   /** Makes a change that CodeMirror doesn't show yet: of undo. The caret goes behind it. Returns whether it is made. */
@@ -412,9 +396,9 @@ export class Editor {
   #goOn() {
     if (this.active === null) this.#showFirst();
     this.waiting.goOn();
-    this.page.goOn();
+    this.page.opening.goOn();
     const unloaded = this.active?.unloaded ?? null;
-    if (unloaded !== null && !this.isComposing) this.session.see(this.active.tag, unloaded.start, unloaded.end);
+    if (unloaded !== null && !this.input.isComposing) this.session.see(this.active.tag, unloaded.start, unloaded.end);
     if (this.waiting.count > 0) this.#wake(READ_AFTER);
     else if (this.#isLineWatched) this.#wake(TICK);
   }
@@ -430,6 +414,17 @@ export class Editor {
     const isKnown = this.client.requests === 0 && !this.client.state().commandLocked;
     const [first] = isKnown ? this.tags : [];
     if (first !== undefined) this.open(first);
+  }
+
+  /** What becomes of a promise: its `value` or its `error`, once it `isThere`. Then the keys that wait go on. */
+  awaited(promise) {
+    const answer = { isThere: false, value: null, error: null };
+    const meet = (what) => {
+      Object.assign(answer, what, { isThere: true });
+      this.update();
+    };
+    promise.then((value) => meet({ value }), (error) => meet({ error }));
+    return answer;
   }
 
   /** Something waits until the user rests. */

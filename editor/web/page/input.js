@@ -57,16 +57,14 @@ function newlineAsAbove(cm) {
 }
 
 export class Input {
-  #bookmark = null; // of a mouse's selection that waits
+  isComposing = false;
+  #composesAside = false; // what is being composed waits, until it is whole
   #clip = null; // what was copied or cut last while keys waited: its text once it is known, and whether the clipboard has it
 
   constructor(CodeMirror, cm, editor) {
-    this.CodeMirror = CodeMirror;
-    this.cm = cm;
-    this.editor = editor;
-    this.isComposing = false;
-    this.#composesAside = false;
+    Object.assign(this, { CodeMirror, cm, editor });
     CodeMirror.commands.newlineAsAbove = newlineAsAbove;
+    CodeMirror.keyMap.sulgrevad = { ...this.#keys, ...editor.page.keys };
     cm.setOption("keyMap", "sulgrevad");
     cm.on("beforeChange", (_, change) => this.#meetChange(change));
     cm.on("change", (_, change) => change.origin !== OURS && editor.take(change));
@@ -77,18 +75,16 @@ export class Input {
     this.#hearCompositions(cm.getInputField());
   }
 
-  #composesAside; // what is being composed waits, until it is whole
-
-  /** The keys of CodeMirror, each of which waits its turn, and those of the editor. */
-  static define(CodeMirror, editor) {
+  /** The keys of CodeMirror, each of which waits its turn. */
+  get #keys() {
     const keys = {};
-    for (const [key, name] of Object.entries(allKeys(CodeMirror, "default"))) {
+    for (const [key, name] of Object.entries(allKeys(this.CodeMirror, "default"))) {
       const command = REPLACED[name] ?? name;
       if (!KEPT.test(command)) continue;
-      keys[key] = () => editor.input.press(command);
-      if (command.startsWith("go")) keys[`Shift-${key}`] ??= () => editor.input.press(command, true);
+      keys[key] = () => this.press(command);
+      if (command.startsWith("go")) keys[`Shift-${key}`] ??= () => this.press(command, true);
     }
-    CodeMirror.keyMap.sulgrevad = { ...keys, ...editor.keys };
+    return keys;
   }
 
   /** A command of CodeMirror's; a move may extend the selection. */
@@ -135,8 +131,7 @@ export class Input {
 
   /** Whether all is loaded that a command would take out: what went can be brought back then. */
   #hasSelected(command) {
-    if (command.startsWith("go") || command.startsWith("select")) return true;
-    return this.editor.isLoaded(this.cm.getCursor("from"), this.cm.getCursor("to"));
+    return command.startsWith("go") || command.startsWith("select") || this.#isSelectedLoaded;
   }
 
   // ---- Texts
@@ -212,10 +207,10 @@ export class Input {
 
   /** What is copied or cut while keys wait is what these select: so it waits, too. A selection that isn't all loaded is loaded first. */
   #meetCopy(event, isCut) {
-    const { cm, editor } = this;
+    const { editor } = this;
     const isBehind = editor.waiting.count > 0;
     if (!isBehind) this.#clip = null; // the clipboard has what comes now
-    if (!isBehind && editor.isLoaded(cm.getCursor("from"), cm.getCursor("to"))) return;
+    if (!isBehind && this.#isSelectedLoaded) return;
     event.preventDefault();
     event.codemirrorIgnore = true;
     if (isBehind) this.#copyLater(isCut);

@@ -44,7 +44,7 @@ export class Waiting {
   /** Does what was pressed, up to the first action that has to wait. Once the session is over none waits: what can't be done never will. */
   goOn() {
     if (this.#isActing) return;
-    this.#noteLate();
+    this.#lateSince = this.editor.isLate ? (this.#lateSince ?? performance.now()) : null;
     while (this.#actions.length > 0) {
       const [action] = this.#actions;
       if (this.#mayAct(action)) {
@@ -83,11 +83,6 @@ export class Waiting {
     } finally {
       this.#isActing = false;
     }
-  }
-
-  #noteLate() {
-    if (!this.editor.isLate) this.#lateSince = null;
-    else this.#lateSince ??= performance.now();
   }
 
   get #isKnownLate() {

@@ -32,7 +32,7 @@ export class Copies {
   #refused = new Set(); // keys of copies for which the browser had no room
   #asideCount = 0; // texts that were set aside
   #unsaved = new Set(); // files whose text the host could save nowhere
-  #isLast = false; // the copies of now stay
+  isLast = false; // the host is gone, or could save some texts nowhere: copies of all changed ones are made, and stay
 
   /** The keys of this page begin with a word of its own: what another page keeps of the same file is another text. */
   constructor(editor) {
@@ -45,17 +45,6 @@ export class Copies {
     if (!OF_TEXTS.includes(kind) || code === NoteCode.BROKEN) return; // that is of what the file was
     if (kind === NoteKind.SAVED || copy.length > 0) this.#unsaved.delete(tag);
     else this.#unsaved.add(tag);
-  }
-
-  /** Makes copies where the host may lack something, or could save a text nowhere; others of this page go. */
-  keep() {
-    this.#putAll(this.#isLast || (this.editor.session !== null && this.editor.lacksChanges));
-  }
-
-  /** Makes copies of all changed texts, which stay: the host is gone, or could save some of them nowhere. */
-  keepAll() {
-    this.#isLast = true;
-    this.keep();
   }
 
   /** Keeps what was typed and is in no file, until the user drops it. Returns the copy. */
@@ -71,9 +60,11 @@ export class Copies {
     return this.#refused.size > 0;
   }
 
-  /** Makes copies of all changed texts, and of what was typed and waits; else of those alone that the host could save nowhere. */
-  #putAll(isOfAll) {
+  /** Makes copies of all changed texts, and of what was typed and waits, if the host may lack something; else of those alone that it could
+   * save nowhere. Others of this page go. */
+  keep() {
     const { editor } = this;
+    const isOfAll = this.isLast || (editor.session !== null && editor.lacksChanges);
     const [when, copies] = [Date.now(), []];
     for (const [tag, view] of editor.views) {
       if (!editor.isChanged(tag) || !(isOfAll || this.#unsaved.has(tag))) continue;

@@ -1,10 +1,10 @@
 /* The page: its parts, its keys, and the session that its address has. */
-import { finder } from "./start.js";
 import { keepNames } from "./connection.js";
 import { Copies } from "./local_backup.js";
 import { Editor } from "./editor.js";
 import { Find } from "./search.js";
 import { Opening } from "./open_requests.js";
+import { finder } from "./session_finder.js";
 import { statusOf } from "./status.js";
 import { Client, NoteCode, NoteKind, SessionLost, SessionOver, Status } from "./sulgrevad/sulgrevad.js";
 
@@ -96,17 +96,13 @@ class Page {
     finder.hear({
       begun: (session) => this.editor.begin(session),
       note: (note) => this.#meet(note),
-      told: (words) => this.#hear(words),
+      told: (words) => this.tell(words),
       over: (why) => this.#meetEnd(why),
     });
-    for (const copy of this.copies.left) this.#offerLeft(copy);
+    for (const copy of this.copies.left) {
+      this.#offer(copy, `${copy.name}: the host may lack what this browser kept of it at ${new Date(copy.when).toLocaleString()}`);
+    }
     this.cm.focus();
-  }
-
-  /** A line for people. */
-  #hear(line) {
-    this.tell(line);
-    this.draw();
   }
 
   /** A message of the host: what became of a text, say, whose words are shown unless all went well. */
@@ -119,14 +115,14 @@ class Page {
     this.editor.meet(note);
     this.copies.meet(note);
     const isPlain = kind === NoteKind.REFUSED || (kind === NoteKind.SAVED && code === NoteCode.NO_CODE);
-    if (text !== "" && !isPlain) this.#hear(`samhost: ${text}`);
+    if (text !== "" && !isPlain) this.tell(`samhost: ${text}`);
     this.draw();
   }
 
   #meetEnd(why) {
     const { status = null, code = null } = why;
     if (why instanceof SessionOver && status !== null) keepNames();
-    if (GONE.includes(code) || status === STATUS_LOST) this.copies.keepAll();
+    if (GONE.includes(code) || status === STATUS_LOST) this.copies.isLast = true;
     this.editor.lose(wordsOf(why));
   }
 
@@ -184,17 +180,12 @@ class Page {
       previous: () => this.find.previous(),
       undo: () => editor.undo(),
       redo: () => editor.redo(),
-      escape: () => this.#clear(),
+      escape: () => this.find.end(),
       leave: () => editor.end(() => this.#leave()),
       begin: () => location.reload(),
       read: () => (part("over").hidden = true),
     };
     actions[action]?.();
-  }
-
-  #clear() {
-    this.editor.say("");
-    this.find.end();
   }
 
   #leave() {
@@ -205,11 +196,6 @@ class Page {
   }
 
   // ---- What is drawn
-
-  /** What goes on by itself here. */
-  goOn() {
-    this.opening.goOn();
-  }
 
   /** Draws what stands round the text, before the next frame. */
   draw() {
@@ -223,16 +209,11 @@ class Page {
     });
   }
 
-  /** Files that have a button: all of a few, else those that are open. */
-  get #shownFiles() {
-    const { editor } = this;
-    const { tags } = editor;
-    return tags.length <= MOST_UNOPENED ? tags : tags.filter((tag) => editor.views.has(tag));
-  }
-
+  /** Draws a button for each file of a few, else for those that are open. */
   #drawFiles() {
     const { editor } = this;
-    const files = this.#shownFiles;
+    const { tags } = editor;
+    const files = tags.length <= MOST_UNOPENED ? tags : tags.filter((tag) => editor.views.has(tag));
     const words = files.map((tag) => `${tag} ${editor.active?.tag === tag} ${editor.isChanged(tag)} ${editor.nameOf(tag)}`).join("\n");
     if (words === this.filesDrawn) return;
     this.filesDrawn = words;
@@ -246,11 +227,8 @@ class Page {
 
   #fileButton(tag) {
     const { editor } = this;
-    const button = document.createElement("button");
-    button.type = "button";
-    button.textContent = this.#marked(tag);
+    const button = this.#button(this.#marked(tag), () => editor.show(tag));
     button.setAttribute("aria-current", editor.active?.tag === tag);
-    button.addEventListener("click", () => editor.show(tag));
     return button;
   }
 
@@ -268,11 +246,6 @@ class Page {
     const button = Object.assign(document.createElement("button"), { type: "button", textContent: text });
     button.addEventListener("click", act);
     return button;
-  }
-
-  /** A copy of another page is there. */
-  #offerLeft(copy) {
-    this.#offer(copy, `${copy.name}: the host may lack what this browser kept of it at ${new Date(copy.when).toLocaleString()}`);
   }
 
   /** What was typed is in no file: the line has its front, and a copy has all. */

@@ -196,31 +196,21 @@ export class Opening {
   /** Has the host open a file of its machine. Keys that come meanwhile wait: they are for that file. */
   open(path) {
     const { editor } = this;
-    let opening = null; // what becomes of it: the `tag` of its file, or the `error` that says why it isn't opened
+    let opening = null; // what becomes of it: the tag of its file, or why it isn't opened
     const act = () => {
       if (opening !== null) return this.#goOn(path, opening);
       if (editor.isLate) return AGAIN;
-      opening = this.#join(path);
+      opening = editor.awaited(editor.session.join(path));
       return AGAIN;
     };
     editor.press(`opening ${path}`, act, { isOfNoFile: true });
   }
 
-  #join(path) {
-    const opening = { tag: null, error: null };
-    const meet = (what) => {
-      Object.assign(opening, what);
-      this.editor.update();
-    };
-    this.editor.session.join(path).then((tag) => meet({ tag }), (error) => meet({ error }));
-    return opening;
-  }
-
   /** What became of a path: its file is shown, a folder is gone into, or the user is told why it isn't opened. */
-  #goOn(path, { tag, error }) {
+  #goOn(path, { isThere, value: tag, error }) {
     const { editor } = this;
-    if (tag !== null) return editor.open(tag) ? undefined : AGAIN;
-    if (error === null) return AGAIN;
+    if (!isThere) return AGAIN;
+    if (error === null) return editor.open(tag) ? undefined : AGAIN;
     if (error instanceof RequestRefused && error.note.code === NoteCode.IS_FOLDER) this.#enter(path);
     else editor.refuse(`${path} is not opened: ${error.message}`);
     return undefined;

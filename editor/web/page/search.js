@@ -15,9 +15,7 @@ export class Find {
   #origin = { start: 0, end: 0 }; // what was selected when the search began
 
   constructor(editor, bar, field) {
-    this.editor = editor;
-    this.bar = bar;
-    this.field = field;
+    Object.assign(this, { editor, bar, field });
     field.addEventListener("input", () => this.#seek());
     field.addEventListener("keydown", (event) => this.#key(event));
   }
@@ -37,6 +35,7 @@ export class Find {
 
   end() {
     this.bar.hidden = true;
+    this.editor.say("");
     this.editor.cm.focus();
   }
 
@@ -80,7 +79,7 @@ export class Find {
       if (place !== null) return this.#select(place, value);
       if (this.#isAllLoaded) return giveUp();
       isLacking = true;
-      if (!this.editor.isLate) asked = this.#askHost(`/${escaped(value)}/`);
+      if (!this.editor.isLate) asked = this.#askHost(value);
       return AGAIN;
     };
     const giveUp = () => this.#wrap(this.#after(0, value), value);
@@ -121,10 +120,10 @@ export class Find {
 
   /** The last place before, down to the next gap. */
   #before(place, value) {
-    const { shown } = this.editor.active;
-    const gaps = [...shown.gaps(0, place)].map(({ gap, start }) => start + gap.runes).filter((end) => end <= place);
+    const { client, active } = this.editor;
+    const gaps = [...active.shown.gaps(0, place)].map(({ gap, start }) => start + gap.runes).filter((end) => end <= place);
     const first = gaps.at(-1) ?? 0;
-    const text = shown.text(first, place - first);
+    const text = client.text(active.tag, first, place - first);
     const found = text.lastIndexOf(value);
     return found < 0 ? null : first + runesOf(text.slice(0, found));
   }
@@ -141,11 +140,10 @@ export class Find {
   async placeOfLine(tag, number) {
     const { client, session, views } = this.editor;
     const { shown, doc, selection } = views.get(tag);
+    const from = selection.end;
     if (number - 1 <= Math.min(shown.firstGapLine, doc.lastLine())) return shown.placeOf({ line: number - 1, ch: 0 });
     if (client.firstGap(tag) === null) return null;
-    const asked = { tag, from: selection.end, dot: null, isRefused: false };
-    await this.#ask(session, asked, String(number));
-    const { dot, from } = asked;
+    const dot = await this.#ask(tag, from, String(number));
     if (dot === null || (dot.start === from && dot.end === from)) return null;
     await session.load(tag, Math.max(0, dot.start - PAGE), dot.start + PAGE);
     return dot.start;
@@ -157,32 +155,29 @@ export class Find {
     else this.#select(place, "");
   }
 
-  /** Has the host look, by a command line, from the end of the selection on. Returns what becomes its answer: the `dot`, or that it
-   * `isRefused`. */
-  #askHost(command) {
-    const { session, active } = this.editor;
-    const { tag, selection } = active;
-    const asked = { tag, from: selection.end, dot: null, isRefused: false };
-    this.editor.say("the host looks for it");
-    this.#ask(session, asked, command);
-    return asked;
+  /** Has the host look for a text from the end of the selection on. Returns what becomes of that. */
+  #askHost(value) {
+    const { editor } = this;
+    const { tag, selection } = editor.active;
+    editor.say("the host looks for it");
+    return editor.awaited(this.#ask(tag, selection.end, `/${escaped(value)}/`));
   }
 
-  async #ask(session, asked, command) {
-    const { tag, from } = asked;
+  /** Has the host run a command line from a place on. Returns what that selects; null where it is refused. */
+  async #ask(tag, from, command) {
+    const { session } = this.editor;
     try {
       const selected = session.request(EventKind.SELECT, { tag, start: from, number: from });
       await Promise.all([selected, session.run(tag, command)]);
-      asked.dot = session.client.file(tag).dot;
+      return session.client.file(tag).dot;
     } catch {
-      asked.isRefused = true;
+      return null;
     }
-    this.editor.update();
   }
 
   /** The host has selected the place, or none. */
-  #meetAnswer({ dot, isRefused }, value) {
-    if (dot === null && !isRefused) return AGAIN;
+  #meetAnswer({ isThere, value: dot }, value) {
+    if (!isThere) return AGAIN;
     return dot !== null && dot.end - dot.start === runesOf(value) ? this.#selectLoaded(dot.start, value) : this.#wrap(null, value);
   }
 

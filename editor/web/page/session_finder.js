@@ -1,5 +1,5 @@
 /* The session of this address: it begins, or the one that was here before is taken over; where the host has it no more another begins. */
-import { Connection, UNKNOWN, first, keepNames, nameOf, newId } from "./connection.js";
+import { Connection, Teller, UNKNOWN, first, keepNames, nameOf, newId } from "./connection.js";
 import { NoteKind, Session, SessionLost, Status } from "./sulgrevad/sulgrevad.js";
 
 const SESSION_NAME = /^[0-9a-f]{16}$/; // what the host says becomes a word of a command
@@ -14,9 +14,9 @@ const MOVED = "samweb: it has another address by now: open the one that it print
 
 const DECODER = new TextDecoder();
 
-export class SessionFinder {
-  #heard = null;
-  #untold = []; // what nobody has heard: each with the name of its call
+/** It tells of each session as it begins (`begun`), each message of its host (`note`), each line for people (`told`), and why there is no
+ * session any more (`over`). */
+class SessionFinder extends Teller {
   #names = []; // of sessions that may be taken over, the likeliest first
   #verb = ""; // by which the newest connection of this session was asked for; "" before the first
   #failures = 0; // of sessions, one after another, whose first connection broke, and which the host doesn't have
@@ -28,23 +28,12 @@ export class SessionFinder {
 
   /** Goes on with the first connection. */
   constructor() {
+    super();
     this.#begin(first.id, first.names);
   }
 
-  /** From now on has `heard.begun` called with a session, `heard.note` with each message of its host, `heard.told` with each line for
-   * people, and `heard.over` with why there is no session any more; also with what has come before. */
-  hear(heard) {
-    this.#heard = heard;
-    for (const [event, what] of this.#untold.splice(0)) heard[event](what);
-  }
-
-  #tell(event, what) {
-    if (this.#heard === null) this.#untold.push([event, what]);
-    else this.#heard[event](what);
-  }
-
   #tellOnce(words) {
-    if (words !== this.#lastTold) this.#tell("told", words);
+    if (words !== this.#lastTold) this.tell("told", words);
     this.#lastTold = words;
   }
 
@@ -58,7 +47,7 @@ export class SessionFinder {
     session.addEventListener("note", ({ detail }) => this.#meet(detail));
     session.addEventListener("fault", ({ detail }) => this.#meetFault(detail));
     session.addEventListener("over", ({ detail }) => this.#meetEnd(detail));
-    this.#tell("begun", session);
+    this.tell("begun", session);
   }
 
   #beginAnew(names, failures) {
@@ -92,7 +81,7 @@ export class SessionFinder {
   /** The first message has the session's name, which may be another after a takeover. */
   #meet(note) {
     this.#lastTold = "";
-    this.#tell("note", note);
+    this.tell("note", note);
     const name = note.kind === NoteKind.SESSION ? DECODER.decode(note.path) : "";
     if (!SESSION_NAME.test(name)) return;
     this.name = name;
@@ -104,13 +93,16 @@ export class SessionFinder {
   #meetEnd(why) {
     const isMissing = why instanceof SessionLost && why.code === Status.LINK_NO_SESSION && !this.session.line.isKnown;
     if (!isMissing || this.#verb === "serve") {
-      this.#tell("over", this.#whyNot === "" && !isMissing ? why : new Error(CANT_BEGIN));
+      this.tell("over", this.#whyNot === "" && !isMissing ? why : new Error(CANT_BEGIN));
     } else if (this.#verb === "take") {
       this.#beginAnew(this.#names.slice(1));
-      if (this.#names.length === 0 && first.names.length > 0) this.#tell("told", GONE);
+      if (this.#names.length === 0 && first.names.length > 0) this.tell("told", GONE);
     } else {
       this.#failures = Math.min(this.#failures + 1, MOST_FAILURES);
       this.#beginAnew([this.name, ...this.#names], this.#failures);
     }
   }
 }
+
+/** It asks for the names of the files while the rest of the page still comes. */
+export const finder = new SessionFinder();

@@ -26,10 +26,6 @@ function unitsOf(text, runes) {
   return units;
 }
 
-function isPair(text, at) {
-  return at > 0 && text.codePointAt(at - 1) > 0xffff;
-}
-
 /** A stretch of loaded text, which isn't empty. */
 class Piece {
   isGap = false;
@@ -91,7 +87,7 @@ export function piecesOf(text) {
   const pieces = [];
   for (let at = 0; at < text.length; ) {
     let end = Math.min(text.length, at + MOST_UNITS);
-    if (isPair(text, end)) end++;
+    if (text.codePointAt(end - 1) > 0xffff) end++; // no pair of surrogates is parted
     pieces.push(new Piece(text.slice(at, end)));
     at = end;
   }
@@ -183,19 +179,6 @@ export class Shown {
     const all = merged([...beside, ...before, ...pieces, ...after]);
     this.pieces.splice(first.at - beside.length, end - first.at + beside.length, ...all);
     this.runes += pieces.reduce((sum, piece) => sum + piece.runes, 0) - gone;
-  }
-
-  /** The text of so many runes from a place on, with a shade for each gap. */
-  text(start, count) {
-    let text = "";
-    let runes = 0;
-    for (const piece of this.pieces) {
-      if (runes >= start + count) break;
-      const [from, to] = [Math.max(0, start - runes), Math.min(piece.runes, start + count - runes)];
-      if (from < to) text += piece.isGap ? piece.text : piece.text.slice(piece.unitsOf(from), piece.unitsOf(to));
-      runes += piece.runes;
-    }
-    return text;
   }
 
   /** The gaps that touch a stretch, each with the place where it begins. */

@@ -44,10 +44,7 @@ export class View {
   #changes = []; // that are told, and not shown yet
 
   constructor(client, tag, cm, doc) {
-    this.client = client;
-    this.tag = tag;
-    this.cm = cm;
-    this.doc = doc;
+    Object.assign(this, { client, tag, cm, doc });
     this.shown = new Shown();
   }
 
@@ -85,10 +82,10 @@ export class View {
     this.#put(from, to - from, pieces, (place) => changes.reduce(moved, place));
   }
 
-  /** Shows all of the text anew. */
-  renew() {
-    const length = this.client.len(this.tag);
-    this.#put(0, this.shown.runes, read(this.client, this.tag, 0, length), (place) => Math.min(place, length));
+  /** Shows all of the text anew, and selects a stretch. */
+  renew(start, end) {
+    this.#put(0, this.shown.runes, read(this.client, this.tag, 0, this.client.len(this.tag)), () => 0);
+    this.select(start, end);
   }
 
   /** Puts pieces in the place of a stretch. Both ends of the selection go where `moved` says: CodeMirror would move one that stands at the
@@ -111,11 +108,6 @@ export class View {
   #spareField() {
     const isShown = this.doc.getEditor() && this.cm.curOp;
     if (isShown && this.hasGap(this.doc.getCursor("from"), this.doc.getCursor("to"))) this.cm.curOp.updateInput = 0;
-  }
-
-  /** Whether nothing of it is loaded. */
-  get isFresh() {
-    return this.shown.runes > 0 && this.shown.pieces.every((piece) => piece.isGap);
   }
 
   /** Has each gap show as a shade below its line, as high as its lines may be. */
@@ -154,13 +146,13 @@ export class View {
     return Math.ceil(this.cm.defaultTextHeight() * Math.max(1, runes / inLine));
   }
 
-  /** What the user changed in CodeMirror's document, which shows it already. Returns the change in places. */
+  /** What the user changed in CodeMirror's document, which shows it already. Returns the stretch that went. */
   take(from, removed, text) {
     const start = this.shown.placeOf(from);
     const gone = runesOf(removed);
     this.shown.replace(start, gone, piecesOf(text));
     this.#shadeAll();
-    return { start, gone, came: runesOf(text) };
+    return { start, end: start + gone };
   }
 
   // ---- Where it stands in the window

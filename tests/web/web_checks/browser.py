@@ -59,6 +59,10 @@ requestAnimationFrame(look);
 """
 
 
+# Whether a file is shown, and some of its text.
+SHOWN = "!!globalThis.sulgrevad?.active && (sulgrevad.cm.getValue() === '' || sulgrevad.active.shown.pieces.some(({ isGap }) => !isGap))"
+
+
 class Failed(Exception):
     """What does not hold."""
 
@@ -205,8 +209,7 @@ class Page:
         return self.js("sulgrevad.client.text(sulgrevad.active.tag)")
 
     def wait_for_text(self):
-        shown = "!!globalThis.sulgrevad?.active && !sulgrevad.active.isFresh"
-        wait_until(lambda: self.js(shown), "no file is shown")
+        wait_until(lambda: self.js(SHOWN), "no file is shown")
 
     def wait_until_settled(self):
         """Until the host has all, and has answered."""

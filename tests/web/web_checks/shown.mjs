@@ -48,7 +48,7 @@ function change(runes, shown) {
 
 function compare(runes, shown) {
   const { positions, text } = laidOut(runes);
-  expect([shown.runes, shown.text(0, shown.runes) === text], [runes.length, true], "the text");
+  expect([shown.runes, shown.pieces.map((piece) => piece.text).join("") === text], [runes.length, true], "the text");
   const step = 1 + Math.floor(positions.length / 60);
   for (let place = 0; place < positions.length; place += step) {
     expect(shown.positionOf(place), positions[place], `the position of ${place}`);
@@ -56,9 +56,6 @@ function compare(runes, shown) {
     const { line, ch } = positions[place];
     if (runes[place]?.length === 2) expect(shown.placeOf({ line, ch: ch + 1 }), place, `the place within the pair at ${place}`);
   }
-  const [start, end] = [chance(runes.length + 1), chance(runes.length + 1)].sort((one, other) => one - other);
-  const wanted = runes.slice(start, end).filter((rune, at) => rune !== GAP || at === 0 || runes[start + at - 1] !== GAP);
-  expect(shown.text(start, end - start), wanted.map((rune) => rune ?? SHADED).join(""), "a part of the text");
 }
 
 let [runes, shown] = [[], new Shown()];
