@@ -30,13 +30,16 @@ function sessionNames() {
   return names.split(" ").filter((name) => name !== "");
 }
 
-/** Keeps them: where copies have taken all the room, for this tab alone. */
+/** Keeps them: where copies have taken all the room, for this tab alone; where that has none either, not at all. */
 export function keepNames(...names) {
-  try {
-    localStorage.setItem(NAMES_KEY, names.join(" "));
-    sessionStorage.removeItem(NAMES_KEY);
-  } catch {
-    sessionStorage.setItem(NAMES_KEY, names.join(" "));
+  sessionStorage.removeItem(NAMES_KEY);
+  for (const storage of [localStorage, sessionStorage]) {
+    try {
+      storage.setItem(NAMES_KEY, names.join(" "));
+      return;
+    } catch {
+      // the other one may have room
+    }
   }
 }
 
