@@ -7,6 +7,7 @@ import { View } from "./view.js";
 import { AGAIN, READ_AFTER, Waiting } from "./key_queue.js";
 
 const COMMAND = 0; // the tag of the command file
+const ALL_TAGS = 65_536; // of a session
 const REACH = 4096; // runes that are loaded for a key that goes by text which isn't
 const REPLACING = [NoteCode.CHANGED_SINCE, NoteCode.EXISTS_ALREADY]; // why a write failed that would have replaced another program's text
 
@@ -85,7 +86,7 @@ export class Editor {
 
   /** The host has told that it keeps a file for terminals. */
   hide(tag) {
-    this.#hidden.add(tag);
+    if (tag < ALL_TAGS) this.#hidden.add(tag);
   }
 
   nameOf(tag) {

@@ -14,6 +14,7 @@ Session.__index = Session
 
 local VERSION, MESSAGES = 2, 1 -- of the core protocol, and of the session's messages
 local MOST_RUNES = library.number.SAM_MOST_RUNES -- of a text
+local ALL_TAGS = 65536 -- of a session
 local TICK = 500 -- milliseconds after which the clock is looked at again
 local SECONDS_UNKEPT = 10 -- of a lost line, until what the host may not have is kept here again
 local SECONDS_TO_LEAVE = 10 -- for which the end of Neovim waits for a host that answers
@@ -262,7 +263,7 @@ function Session:meet(note)
   elseif note.kind == C.SAM_NOTE_TAKEN_OVER then
     self.line:lose("another terminal has taken the session over: " .. note.text)
   elseif note.kind == C.SAM_NOTE_ANEW then
-    self.hidden[note.number] = true -- it is none of the user's
+    if note.number < ALL_TAGS then self.hidden[note.number] = true end -- it is none of the user's
   elseif note.kind == C.SAM_NOTE_SHOWN then
     self:ask(C.SAM_EVENT_OFFER_VERSION)
     self:once(function() return self:file_state(note.tag).is_known end, function() self:show_file(note.tag, note.number) end)
