@@ -29,7 +29,7 @@ pub use Rattle.sam_crossing.proofs.OrderLaws.{host_never_refuses, reached_in_ord
 pub use Rattle.sam_world.proofs.ComesToSync.{FitsUnder, each_append, fits, settles, users_merged_from}
 pub use Rattle.sam_crossing.specs.RunOrder.{IsInOrder}
 pub use Rattle.sam_crossing.specs.Joining.{may_join}
-pub use Rattle.sam_crossing.specs.World.{mesgs, PlainWorld, after_answer, composed_by, host_takes, joined_files, new_world, run_of, step_of, user_events}
+pub use Rattle.sam_crossing.specs.World.{mesgs, PlainWorld, after_answer, composed_by, host_takes, joined_files, run_of, step_of, user_events}
 pub use Rattle.sam_world.specs.Sides.{Counts, Each, HostRuns, Steps, TermRuns, World, if_given, answered, composed, host_take, run, step, term_take, world}
 pub use Rattle.sam_world.specs.Prefixes.{Begins}
 pub use Rattle.sam_world.specs.Merging.{is_bad_log, merged}

@@ -21,8 +21,8 @@ pub record IsDone (o : OrderedOverlay) : Type 0 where
   pub asked : o.queue ≡ []
   pub put : (f : ℕ) → f < 2 ^ 16 → IsAllPut o.overlay f
 
--- Where nothing moves any more at a client, nothing is under way to its host's end or from there (so no lock is held), and no count is full,
--- neither a request nor an edit waits
+-- Where nothing moves any more at a client, nothing is under way to its host's end or from there (so no lock is held), and no count is
+-- full, neither a request nor an edit waits
 abbrev pub RestingClientsAreDone : Type 0
 RestingClientsAreDone =
     (id : Id) (take_over : Bool) (now : ℕ) (acts : List Act) (c : Client)

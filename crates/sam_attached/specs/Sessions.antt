@@ -52,5 +52,6 @@ ClientsAreOneRun =
     → StartsWith (flat_map went_down host_calls ++ e.pending_bytes) (bytes_of (put s.host_calls))
     → (end_calls : List EndCall) × (up : List ℕ) × (down : List ℕ)
     × AreCarried given (flat_map asides_by host_calls) (flat_map put_in end_calls) up down e n.ordered.overlay.end
-    × (run : AreOneRun given (flat_map asides_by host_calls) (flat_map put_in end_calls) up down e n.ordered.overlay.end) × GoOn e n.ordered.overlay.end
+    × (run : AreOneRun given (flat_map asides_by host_calls) (flat_map put_in end_calls) up down e n.ordered.overlay.end)
+    × GoOn e n.ordered.overlay.end
     × AreAsIfLocal run

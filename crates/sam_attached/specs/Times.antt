@@ -17,7 +17,8 @@ tick now answer = OfLine (TickAt now answer)
 -- whatever a client does, also where its end stops, it waits only for what has begun, and for 30 seconds at most
 abbrev pub ClientsAreTimely : Type 0
 ClientsAreTimely =
-    (id : Id) (take_over : Bool) (now : ℕ) (acts : List Act) (n : Client) → DoesAll (new_client id take_over now) acts n → IsTimely n.line.clock
+    (id : Id) (take_over : Bool) (now : ℕ) (acts : List Act) (n : Client)
+    → DoesAll (new_client id take_over now) acts n → IsTimely n.line.clock
 
 -- three times that are 30 seconds apart, the first of them 30 seconds after the last that the client was told
 pub record AreApart (c : Client) (first second third : ℕ) : Type 0 where
@@ -25,8 +26,8 @@ pub record AreApart (c : Client) (first second third : ℕ) : Type 0 where
   pub goes_on : first + 30000 ≤ second
   pub ends : second + 30000 ≤ third
 
--- Where an answer is due, and the host has not refused for good, the program that asks at such times, and tells of no connection, is told to
--- close a connection and to make one
+-- Where an answer is due, and the host has not refused for good, the program that asks at such times, and tells of no connection, is told
+-- to close a connection and to make one
 abbrev pub ClientsAreNeverStuck : Type 0
 ClientsAreNeverStuck =
     (id : Id) (take_over : Bool) (now : ℕ) (acts : List Act) (c n : Client) (first second third : ℕ) (a b d : Tick)

@@ -34,9 +34,9 @@ pub fn clients_are_timely()
     ensures { ClientsAreTimely }
 {}
 
-/// States that no client is stuck: where an answer is due, three ticks that are 30 seconds apart say "drop" and "connect". And where nothing
-/// moves any more at a client (`Client::go_on` answers `Idle`) and nothing is under way, no lock is held, and neither a request nor an edit
-/// waits, unless the session is over, a count is full, or a text has no room for what waits over it.
+/// States that no client is stuck: where an answer is due, three ticks that are 30 seconds apart say "drop" and "connect". And where
+/// nothing moves any more at a client (`Client::go_on` answers `Idle`) and nothing is under way, no lock is held, and neither a request nor
+/// an edit waits, unless the session is over, a count is full, or a text has no room for what waits over it.
 pub fn clients_are_never_stuck()
     ensures lines { ClientsAreNeverStuck }
     ensures requests { RestingClientsAreDone }

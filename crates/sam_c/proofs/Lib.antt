@@ -1,15 +1,6 @@
-pub mod Walks
-pub mod Pieces
-pub mod Ends
 pub mod EndCalls
 pub mod TypingLaws
-pub mod Filling
-pub mod Frees
 pub mod Putting
 pub mod Replaying
-pub mod Measuring
-pub mod LinkIds
-pub mod OverlayLaws
-pub mod DropLaws
 pub mod ServerEnds
 pub mod ServerLaws

@@ -2,8 +2,7 @@
 use Rattle.std.proofs.Common.{◌≡◌, refl, ap, ap₂, ℕ, List, length, Ok, Err}
 use Rattle.sam_script.specs.Replay.{IsReplay, IsReplayFault}
 use Rattle.sam_script.specs.declared.fault.ScriptFault.{ScriptFault}
-use Rattle.sam_c.specs.Scripts.{Replays, filled, handed, line_or}
-use Rattle.sam_c.specs.Status.{script_status}
+use Rattle.sam_c.specs.Scripts.{Replays, filled, handed, line_or, script_status}
 
 pub shown : (script printed before after : List ℕ) (count len line : ℕ) → IsReplay script printed → after ≡ filled printed before → len ≡ length printed
     → Replays script 0 (handed before count line) (handed after len line)

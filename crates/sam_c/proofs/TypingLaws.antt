@@ -6,9 +6,9 @@ use Rattle.sam_endpoint.specs.TermRuns.{Runs}
 use Rattle.sam_endpoint.specs.declared.fault.EndpointFault.{EndpointFault}
 use Rattle.sam_endpoint.specs.declared.fault.EndpointFault.TheVariants as fault
 use Rattle.sam_endpoint.specs.declared.fault.TermStop.{TermStop}
+use Rattle.sam_c.specs.Typing.{TypesPiece, TypesText, pieces, taken_of, typings}
 use Rattle.sam_c.specs.declared.term_typing.TypedText.{TypedText}
 unfoldable use Rattle.sam_c.specs.Terms.{TermDoes}
-use Rattle.sam_c.specs.Typing.{TypesPiece, TypesText, pieces, taken_of, typings}
 
 pub pieces-more : (n : ℕ) (runes : List ℕ) → pieces (suc n) runes ≡ pieces n runes ++ take 512 (drop (n * 512) runes) ∷ []
 pieces-more zero runes = refl

@@ -1,5 +1,5 @@
 -- What the calls of a host do.
-use Rattle.std.specs.Prelude.{◌≡◌, ◌⊎◌, ℕ, List, [], ◌∷◌, ◌++◌, length, take, drop, min, Option, option_map, Some, None, Result, Ok, Err}
+use Rattle.std.specs.Prelude.{◌≡◌, ◌⊎◌, ℕ, List, [], ◌∷◌, take, Option, option_map, Some, None, Result, Ok, Err}
 use Rattle.sam_runes.specs.Slots.{slot}
 use Rattle.sam_text.specs.Files.{PlainFile, file_at}
 use Rattle.sam_endpoint.specs.declared.fault.EndpointFault.{EndpointFault}
@@ -10,18 +10,14 @@ use Rattle.sam_host.specs.declared.fault.MarkFault.{MarkFault}
 use Rattle.sam_endpoint.specs.HostEndpoints.{PlainHostEndpoint, new_host_endpoint, Finishes}
 use Rattle.sam_endpoint.specs.HostRuns.{Call, Runs, Stops}
 use Rattle.sam_endpoint.specs.HostRuns as call
-use Rattle.sam_c.specs.Status.{ok, no_memory, is_made, no_handle, add_status, mark_status, host_status, host_finish_status}
-use Rattle.sam_c.specs.Calls.{AtHandle, TellsOne}
+use Rattle.sam_handles.specs.Buffers.{Takes}
+use Rattle.sam_handles.specs.Calls.{AtHandle, TellsOne}
+use Rattle.sam_handles.specs.Status.{ok, no_memory, is_made, no_handle, add_status, mark_status, host_status, host_finish_status}
 
 -- a new host, or why there is none and the handle is as before
 abbrev pub HostMade : Option PlainHostEndpoint → ℕ → Option PlainHostEndpoint → Type 0
 HostMade None status after = ((status ≡ ok) × (after ≡ Some new_host_endpoint)) ⊎ ((status ≡ no_memory) × (after ≡ None))
 HostMade (Some e) status after = (status ≡ is_made) × (after ≡ Some e)
-
--- the handle is empty now, and this says whether it was before
-abbrev pub Freed : {E : Type 0} → Option E → ℕ → Option E → Type 0
-Freed None status after = (status ≡ no_handle) × (after ≡ None)
-Freed (Some e) status after = (status ≡ ok) × (after ≡ None)
 
 -- a call with what came of it, as the laws of calls know it, leads from one end to the other; perhaps it stops the end
 unfoldable pub HostDoes : PlainHostEndpoint → Call → PlainHostEndpoint → Type 0
@@ -63,11 +59,6 @@ HostMarked before tag status after =
     AtHandle before status after
     (λ e status g. (result : Result (Unit {0}) MarkFault) × HostDoes e (call.MarkDirty e.host.taken tag result) g
     × (status ≡ mark_status_of result))
-
--- the first pending bytes went into the buffer, as many as have room
-abbrev pub Takes : List ℕ → List ℕ → List ℕ → ℕ → List ℕ → Type 0
-Takes pending before after count left =
-    (count ≡ min (length pending) (length before)) × (after ≡ take count pending ++ drop count before) × (left ≡ drop count pending)
 
 abbrev pub HostTaken : Option PlainHostEndpoint → List ℕ → List ℕ → ℕ → ℕ → ℕ → Option PlainHostEndpoint → Type 0
 HostTaken None before after old_count status new_count g = (status ≡ no_handle) × (after ≡ before) × (new_count ≡ old_count) × (g ≡ None)

@@ -8,9 +8,9 @@ use Rattle.sam_journal.specs.declared.reading.Next.{Next}
 use Rattle.sam_journal.specs.declared.reading.Next.TheVariants.{End, Torn, Whole}
 use Rattle.sam_journal.specs.declared.reading.ReadFault.{ReadFault}
 use Rattle.sam_journal.specs.declared.reading.ReadFault.TheVariants.{Damaged, DamagedHead, NotAJournal, OtherVersion, Short}
+use Rattle.sam_handles.specs.Status.{ok, nothing}
 use Rattle.sam_c.specs.declared.journal_calls.SamRecord.{SamRecord}
 use Rattle.sam_c.specs.declared.journal_calls.SamRecordFrame.{SamRecordFrame}
-use Rattle.sam_c.specs.Status.{ok, nothing}
 
 abbrev pub read_status : ReadFault → ℕ
 read_status Short = 257
@@ -58,4 +58,5 @@ TellsNext End status before after = (status ≡ nothing) × (after ≡ before)
 TellsNext Torn status before after = (status ≡ torn) × (after ≡ before)
 
 abbrev pub NextRecord : ℕ → List ℕ → ℕ → ℕ → ℕ → SamRecord → SamRecord → Type 0
-NextRecord random bytes place number status before after = (next : Next) × NextIs random bytes place number next × TellsNext next status before after
+NextRecord random bytes place number status before after =
+    (next : Next) × NextIs random bytes place number next × TellsNext next status before after

@@ -6,21 +6,18 @@ use Rattle.sam_link.specs.declared.fault.NotOpen.{NotOpen}
 use Rattle.sam_link.specs.declared.fault.NoteFault.{NoteFault}
 use Rattle.sam_link.specs.declared.hello.Id.{Id}
 use Rattle.sam_link.specs.declared.keeping.PutFault.{PutFault}
-use Rattle.sam_line.specs.Clock.{silence}
-use Rattle.sam_line.specs.Greeting.{IsFront}
 use Rattle.sam_line.specs.Calls.{LineCall, LineDoes}
 use Rattle.sam_line.specs.Calls as call
-use Rattle.sam_line.specs.Line.{begun, has_all, is_due, put_len}
+use Rattle.sam_line.specs.Line.{begun}
 use Rattle.sam_line.specs.declared.clock.Tick.{Tick}
 use Rattle.sam_line.specs.declared.fault.ReceiveFault.{ReceiveFault}
 use Rattle.sam_line.specs.declared.line.Line.{Line}
-use Rattle.sam_c.specs.Calls.{AtHandle, TellsOne}
-use Rattle.sam_c.specs.Hosts.{Takes}
-use Rattle.sam_c.specs.LineStatus.{lost_status, receive_status, state_number, tick_number}
-use Rattle.sam_c.specs.LinkStatus.{call_status, no_room, note_status, out_status, put_status}
-use Rattle.sam_c.specs.Links.{handed_or, id_bytes}
-use Rattle.sam_c.specs.Status.{ok, no_memory, is_made, no_handle}
-use Rattle.sam_c.specs.declared.line_readers.SamLineDetails.{SamLineDetails}
+use Rattle.sam_handles.specs.Calls.{AtHandle, TellsOne, handed_or}
+use Rattle.sam_handles.specs.LineDetails.{CopiesWords}
+use Rattle.sam_handles.specs.LineStatus.{receive_status, tick_number}
+use Rattle.sam_handles.specs.LinkIds.{id_bytes}
+use Rattle.sam_handles.specs.LinkStatus.{call_status, no_room, note_status, out_status, put_status}
+use Rattle.sam_handles.specs.Status.{ok, no_memory, is_made, no_handle}
 
 -- a new line with this id, or why there is none and the handle is as before
 abbrev pub MakesLine : List ℕ → Bool → ℕ → ℕ → Option Line → Type 0
@@ -93,27 +90,6 @@ LineNextNote (Some l) before after old status new g =
 
 -- ## Readers
 
--- the words that came before the host's hello, as many of their bytes as have room
-abbrev pub CopiesWords : Line → List ℕ → List ℕ → ℕ → ℕ → Type 0
-CopiesWords l before after status new =
-    (front : List ℕ) × (left : List ℕ) × IsFront l.greeting front × (status ≡ ok) × Takes front before after new left
-
 abbrev pub LineWords : Option Line → List ℕ → List ℕ → ℕ → ℕ → ℕ → Type 0
 LineWords None before after old status new = (status ≡ no_handle) × (after ≡ before) × (new ≡ old)
 LineWords (Some l) before after old status new = CopiesWords l before after status new
-
-abbrev pub line_details : ℕ → Line → SamLineDetails
-line_details now l =
-    record {
-      silence = silence l.clock (is_due l) now;
-      round_trip = l.question.round_trip;
-      failures = l.clock.failures;
-      attempt = l.link.attempt;
-      put_count = put_len l.link;
-      acknowledged = l.link.keeps.base;
-      received = l.link.received;
-      state = state_number l.clock.state;
-      why = lost_status l.clock.state;
-      is_known = l.link.is_known;
-      has_all = has_all l;
-    }

@@ -1,7 +1,6 @@
 -- What the calls of a link do.
 use Rattle.std.specs.Prelude.{◌≡◌, ◌⊎◌, ℕ, List, ◌++◌, length, drop, Bool, true, false, nat_lt, Option, Some, None, Result, Ok, Err}
 use Rattle.sam_mesg.specs.Bounds.{entry}
-use Rattle.sam_mesg.specs.Spelling.{eight}
 use Rattle.sam_link.specs.Calls.{Call, Does, DoesInto, DoesPlaces}
 use Rattle.sam_link.specs.Calls as call
 use Rattle.sam_link.specs.End.{End, fresh}
@@ -21,13 +20,10 @@ use Rattle.sam_link.specs.declared.hello.What.TheVariants.{Refused}
 use Rattle.sam_link.specs.declared.inbox.Place.{Place}
 use Rattle.sam_link.specs.declared.keeping.PutFault.{PutFault}
 use Rattle.sam_link.specs.declared.phase.Role.{Role}
-use Rattle.sam_c.specs.Calls.{AtHandle}
-use Rattle.sam_c.specs.LinkStatus.{answer_status, call_status, feed_status, link_refusal, link_refusals, no_room, note_status, out_status, put_status, role_of, welcome_status, wrong_role}
-use Rattle.sam_c.specs.Status.{ok, no_memory, is_made, no_handle, nothing}
-
--- the 16 bytes of an id
-abbrev pub id_bytes : Id → List ℕ
-id_bytes id = eight id.first ++ eight id.last
+use Rattle.sam_handles.specs.Calls.{handed_or, AtHandle}
+use Rattle.sam_handles.specs.LinkIds.{id_bytes}
+use Rattle.sam_handles.specs.LinkStatus.{answer_status, call_status, feed_status, link_refusal, link_refusals, no_room, note_status, out_status, put_status, role_of, welcome_status, wrong_role}
+use Rattle.sam_handles.specs.Status.{ok, no_memory, is_made, no_handle, nothing}
 
 -- a new end of this side and with this id, or why there is none and the handle is as before
 abbrev pub MakesLink : Option Role → List ℕ → ℕ → Option End → Type 0
@@ -76,11 +72,6 @@ abbrev pub RefusalWritten : ℕ → List ℕ → ℕ → List ℕ → List ℕ �
 RefusalWritten why bytes status before after = WritesRefusal (entry 193 link_refusals why) bytes status before after
 
 -- ## Connections
-
--- a number that was handed out, or what stood there before
-abbrev pub handed_or : {F : Type 0} → ℕ → Result ℕ F → ℕ
-handed_or before (Ok number) = number
-handed_or before (Err why) = before
 
 abbrev pub LinkCalled : Option End → Bool → ℕ → ℕ → ℕ → Option End → Type 0
 LinkCalled None take_over old status new after = (status ≡ no_handle) × (new ≡ old) × (after ≡ None)

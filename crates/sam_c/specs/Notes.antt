@@ -3,20 +3,13 @@ use Rattle.std.specs.Prelude.{◌≡◌, ℕ, List, Option, Some, None, Result, 
 use Rattle.sam_note.specs.Calls.{Reads, Writes, message}
 use Rattle.sam_note.specs.Kinds.{IsKindOf, number}
 use Rattle.sam_note.specs.declared.fault.NoteFault.{NoteFault}
-use Rattle.sam_note.specs.declared.fault.NoteFault.TheVariants.{BadKind, BadField, BadLength, BadPath, BadText}
+use Rattle.sam_note.specs.declared.fault.NoteFault.TheVariants.{BadKind}
 use Rattle.sam_note.specs.declared.kind.NoteKind.{NoteKind}
 use Rattle.sam_note.specs.declared.note.Head.{Head}
 use Rattle.sam_note.specs.declared.note.Note.{Note}
-use Rattle.sam_c.specs.Status.{ok}
+use Rattle.sam_handles.specs.NoteStatus.{fault_status}
+use Rattle.sam_handles.specs.Status.{ok}
 use Rattle.sam_c.specs.declared.note_calls.SamNote.{SamNote}
-
--- why bytes are no message, or why a message is not written
-abbrev pub fault_status : NoteFault → ℕ
-fault_status BadKind = 225
-fault_status BadField = 226
-fault_status BadLength = 227
-fault_status BadPath = 228
-fault_status BadText = 229
 
 -- a message that was read, as C has it
 abbrev pub told_note : Note → SamNote

@@ -1,24 +1,17 @@
 -- What the calls of an overlay do.
-use Rattle.std.specs.Prelude.{◌≡◌, ◌⊎◌, ◌*◌, ℕ, Bool, true, false, nat_le, ◌≤◌, List, [], ◌∷◌, ◌++◌, drop, length, if◌then◌else◌, Option, Some, None, IfSome, Result, Ok, Err, IfOk}
-use Rattle.std.specs.Str.{encode_utf8_all, IsUtf8}
-use Rattle.sam_runes.specs.Reading.{AreRunes}
+use Rattle.std.specs.Prelude.{◌≡◌, ◌⊎◌, ◌*◌, ℕ, Bool, true, false, nat_le, List, [], ◌∷◌, length, Option, Some, None, Result, Ok, Err}
 use Rattle.sam_runes.specs.Texts.{is_empty}
-use Rattle.sam_mesg.specs.Bounds.{entry}
-use Rattle.sam_pending.specs.Cells.{PartialText}
 use Rattle.sam_pending.specs.declared.fault.PendingFault.{PendingFault}
 use Rattle.sam_pending.specs.declared.told.Dropped.{Dropped}
-use Rattle.sam_term.specs.Term.{is_open}
 use Rattle.sam_term.specs.declared.event.UserEvent.{UserEvent}
-use Rattle.sam_term.specs.declared.event.UserEvent.TheVariants.{Check, Close, Cut, Dclick, Exit, Flush, GetSnarf, Load, Look, New, Open, OpenCmd, Paste, Scroll, Search, Select, Send, SetSnarf, Snarf, Typed, Version, View, Work, Write}
 use Rattle.sam_term.specs.declared.fault.Refusal.{Refusal}
 use Rattle.sam_endpoint.specs.TermEndpoints.{PlainTermEndpoint, Finishes}
 use Rattle.sam_endpoint.specs.declared.fault.EndpointFault.{EndpointFault}
 use Rattle.sam_endpoint.specs.declared.fault.FinishFault.{FinishFault}
 use Rattle.sam_endpoint.specs.declared.fault.TermStop.{TermStop}
 use Rattle.sam_endpoint.specs.declared.step.BringFault.{BringFault}
-use Rattle.sam_overlay.specs.Calls.{Asks, Brings, DropsUpTo, PlainOverlay, PutsUpTo, gap_from, shown_at, waiting_at}
+use Rattle.sam_overlay.specs.Calls.{Asks, Brings, DropsUpTo, PutsUpTo, waiting_at}
 use Rattle.sam_overlay.specs.Ordered.{ActsNext, queue_after_drop}
-use Rattle.sam_overlay.specs.Outcomes.{IsNextWaiting}
 use Rattle.sam_overlay.specs.Requests.{put_limit}
 use Rattle.sam_overlay.specs.declared.fault.AskFault.{AskFault}
 use Rattle.sam_overlay.specs.declared.fault.PutFault.{PutFault}
@@ -29,16 +22,17 @@ use Rattle.sam_shown.specs.Shown.{AsksNumbered, Edits, StepsShown, new_shown_end
 use Rattle.sam_shown.specs.declared.shown_end.ShownEnd.{ShownEnd}
 use Rattle.sam_shown.specs.declared.shown_end.ShownStep.{ShownStep}
 use Rattle.sam_shown.specs.declared.splices.Splice.{Splice}
-use Rattle.sam_shown.specs.declared.splices.SpliceKind.TheVariants as splice
-use Rattle.sam_c.specs.Status.{ok, no_memory, is_made, no_handle, no_room, not_text, nothing, waiting, bring_status, call_status, refusal_status, term_finish_status, term_stop_status}
-use Rattle.sam_c.specs.Calls.{AtHandle, TellsOne}
-use Rattle.sam_c.specs.Hosts.{Takes}
-use Rattle.sam_c.specs.Links.{handed_or}
-use Rattle.sam_c.specs.OverlayStatus.{ask_status, put_number, put_status, replace_status, splice_number, turn_number}
-use Rattle.sam_c.specs.Steps.{did_of_term, did_or}
-use Rattle.sam_c.specs.declared.overlay_calls.SamSplice.{SamSplice}
-use Rattle.sam_c.specs.declared.overlay_events.SamEvent.{SamEvent}
-use Rattle.sam_c.specs.declared.steps.SamDid.{SamDid}
+use Rattle.sam_handles.specs.Buffers.{Takes}
+use Rattle.sam_handles.specs.Calls.{WithText, AtHandle, handed_or}
+use Rattle.sam_handles.specs.Did.{did_of_term, did_or}
+use Rattle.sam_handles.specs.Events.{event_of}
+use Rattle.sam_handles.specs.OverlayStatus.{ask_status, put_number, put_status, replace_status, turn_number}
+use Rattle.sam_handles.specs.Shown.{NextWaiting}
+use Rattle.sam_handles.specs.Splices.{told_splice, Handed, HandsBack}
+use Rattle.sam_handles.specs.Status.{ok, no_memory, is_made, no_handle, no_room, nothing, waiting, bring_status, call_status, refusal_status, term_finish_status, term_stop_status}
+use Rattle.sam_handles.specs.declared.did.SamDid.{SamDid}
+use Rattle.sam_handles.specs.declared.event.SamEvent.{SamEvent}
+use Rattle.sam_handles.specs.declared.splice.SamSplice.{SamSplice}
 
 -- a new overlay, or why there is none and the handle is as before
 abbrev pub OverlayMade : Option ShownEnd → ℕ → Option ShownEnd → Type 0
@@ -89,47 +83,7 @@ abbrev pub OverlayNextRefusal : Option ShownEnd → ℕ × ℕ → ℕ → ℕ �
 OverlayNextRefusal None before status after g = (status ≡ no_handle) × (after ≡ before) × (g ≡ None)
 OverlayNextRefusal (Some e) before status after g = FirstRefused e e.ordered.overlay.end.refusals before status after g
 
--- ## Texts that are brought
-
--- the bytes spell these runes, and with them this is done; or they are not UTF-8, or memory for the runes was refused
-abbrev pub WithText : {E : Type 0} → E → List ℕ → (List ℕ → ℕ → E → Type 0) → ℕ → E → Type 0
-WithText e text Does status g =
-    ((runes : List ℕ) × AreRunes runes × (encode_utf8_all runes ≡ text) × Does runes status g)
-    ⊎ (((status ≡ not_text) × (IsUtf8 text → ⊥) × (g ≡ e)) ⊎ ((status ≡ no_memory) × IsUtf8 text × (g ≡ e)))
-
 -- ## Events that pass
-
--- the events in the order of their numbers, from 1 on; the text is that of those which bring one. The last three are of the command file
-abbrev pub events : SamEvent → List ℕ → List UserEvent
-events x text =
-    Select x.tag x.start x.number
-    ∷ Dclick x.tag x.start
-    ∷ Look x.tag
-    ∷ Search x.tag
-    ∷ Flush
-    ∷ Snarf x.tag
-    ∷ GetSnarf
-    ∷ SetSnarf text
-    ∷ View x.tag x.start x.number
-    ∷ Load x.tag x.start x.number
-    ∷ Scroll x.tag x.number
-    ∷ Check x.tag
-    ∷ Open x.tag
-    ∷ New
-    ∷ Write x.tag
-    ∷ Close x.tag
-    ∷ OpenCmd
-    ∷ Work x.tag
-    ∷ Send x.tag
-    ∷ Version x.version
-    ∷ Exit
-    ∷ Typed 0 text
-    ∷ Cut 0
-    ∷ Paste 0
-    ∷ []
-
-abbrev pub event_of : SamEvent → List ℕ → Option UserEvent
-event_of x text = entry 1 (events x text) x.kind
 
 -- the event is brought beside the requests that wait; if there is none, nothing is done
 abbrev pub BringsOne : ShownEnd → Option UserEvent → ℕ → ShownEnd → Type 0
@@ -225,9 +179,6 @@ abbrev pub OverlayStepped : Option ShownEnd → SamDid → ℕ → SamDid → Op
 OverlayStepped None old status new after = (status ≡ no_handle) × (new ≡ old) × (after ≡ None)
 OverlayStepped (Some e) old status new after = (g : ShownEnd) × (after ≡ Some g) × StepsOne e (is_empty e.splices) old status new g
 
-abbrev pub told_splice : Splice → SamSplice
-told_splice x = record { kind = splice_number x.kind; place = x.place; count = x.count; tag = x.tag }
-
 -- the next one is handed out
 abbrev pub FirstSplice : ShownEnd → List Splice → SamSplice → ℕ → SamSplice → Option ShownEnd → Type 0
 FirstSplice e [] old status new after = (status ≡ nothing) × (new ≡ old) × (after ≡ Some e)
@@ -239,51 +190,11 @@ OverlayNextSplice (Some e) old status new after = FirstSplice e e.splices old st
 
 -- ## What is shown
 
--- what is shown of an open file
-abbrev pub text_of : PlainOverlay → ℕ → Option PartialText
-text_of o tag = if is_open o.end.term tag then Some (shown_at o tag) else None
-
--- the first place from that one on whose rune is not loaded
-abbrev pub gap_of : PlainOverlay → ℕ → ℕ → Option ℕ
-gap_of o tag place = if is_open o.end.term tag then gap_from place (shown_at o tag) else None
-
--- the first file from that tag on over which an edit waits
-abbrev pub NextWaiting : PlainOverlay → ℕ → ℕ → ℕ → ℕ → Type 0
-NextWaiting o from status before after = (found : Option ℕ) × IsNextWaiting o.layers from found × TellsOne found status before after
-
 abbrev pub OverlayNextWaiting : Option ShownEnd → ℕ → ℕ → ℕ → ℕ → Type 0
 OverlayNextWaiting None from status before after = (status ≡ no_handle) × (after ≡ before)
 OverlayNextWaiting (Some e) from status before after = NextWaiting e.ordered.overlay from status before after
 
 -- ## Runes for which the host left no room
-
--- what the caller has of them: a splice, a buffer, and how many bytes of it are theirs
-pub record Handed : Type 0 where
-  pub splice : SamSplice
-  pub buffer : List ℕ
-  pub len : ℕ
-
-abbrev pub handed : SamSplice → List ℕ → ℕ → Handed
-handed splice buffer len = record { splice = splice; buffer = buffer; len = len }
-
--- the part of the shown text that went with them
-abbrev pub gone_splice : ℕ → Dropped → SamSplice
-gone_splice tag d = record { kind = splice_number splice.Went; place = d.place; count = d.count; tag = tag }
-
--- their splice, and their UTF-8 in the buffer, whole; behind it stands what stood there before
-abbrev pub HandsWhole : ℕ → Dropped → Handed → Handed → Type 0
-HandsWhole tag d old new =
-    (new.splice ≡ gone_splice tag d) × (new.len ≡ length (encode_utf8_all d.text))
-    × (new.buffer ≡ encode_utf8_all d.text ++ drop new.len old.buffer)
-
--- a buffer of so many bytes has room for them
-abbrev pub FitsWhole : Result (Option Dropped) PendingFault → ℕ → Type 0
-FitsWhole came room = IfOk came (λ taken. IfSome taken (λ d. 4 * length d.text ≤ room))
-
-abbrev pub HandsBack : ℕ → Result (Option Dropped) PendingFault → Handed → ℕ → Handed → Type 0
-HandsBack tag (Ok None) old status new = (status ≡ nothing) × (new ≡ old)
-HandsBack tag (Ok (Some d)) old status new = (status ≡ ok) × HandsWhole tag d old new
-HandsBack tag (Err why) old status new = (status ≡ no_memory) × (new ≡ old)
 
 abbrev pub TakesBack : ShownEnd → ℕ → Handed → ℕ → Handed → ShownEnd → Type 0
 TakesBack e tag old status new g =

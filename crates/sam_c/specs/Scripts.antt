@@ -3,7 +3,18 @@ use Rattle.std.specs.Prelude.{◌≡◌, ℕ, List, ◌++◌, length, take, drop
 use Rattle.sam_script.specs.Replay.{IsReplay, IsReplayFault}
 use Rattle.sam_script.specs.declared.fault.ScriptFault.{ScriptFault}
 use Rattle.sam_script.specs.declared.fault.ScriptFault.TheVariants as fault
-use Rattle.sam_c.specs.Status.{replay_status}
+use Rattle.sam_handles.specs.Status.{ok, no_memory}
+
+-- why a script is not replayed
+abbrev pub script_status : ScriptFault → ℕ
+script_status (fault.Line line) = 161
+script_status fault.CountFull = 162
+script_status fault.OutOfMemory = no_memory
+
+-- what a replay answers
+abbrev pub replay_status : Result (List ℕ) ScriptFault → ℕ
+replay_status (Ok printed) = ok
+replay_status (Err why) = script_status why
 
 -- what the call hands out: the buffer, how many bytes were printed, and the line of a fault
 pub record Handed : Type 0 where

@@ -7,7 +7,7 @@ use Rattle.std.specs.Global.{Global}
 use Rattle.std_heap.specs.contracts.GlobalAllocator.TheImpl.{ghosts}
 use Rattle.sam_server.specs.contracts.recovery.Recovery.{the_row as Recovery}
 use Rattle.sam_server.specs.contracts.server.DurableServer.{the_row as DurableServer}
-use Rattle.sam_c.specs.Handles.{holds}
+use Rattle.sam_handles.specs.Handles.{holds}
 
 abbrev pub holds_server : Global → Ptr → Option DurableServer.Denot → Fml
 holds_server alloc = holds (ghosts.dealloc_token alloc) DurableServer

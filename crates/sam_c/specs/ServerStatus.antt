@@ -12,7 +12,7 @@ use Rattle.sam_server.specs.declared.recovery.RecoveryFault.{RecoveryFault}
 use Rattle.sam_server.specs.declared.recovery.RecoveryFault.TheVariants as recovery
 use Rattle.sam_server.specs.declared.turn.Stop.{Stop}
 use Rattle.sam_server.specs.declared.turn.Stop.TheVariants as stop
-use Rattle.sam_c.specs.Status.{ok, no_memory, unfinished, waiting, host_stop_status}
+use Rattle.sam_handles.specs.Status.{ok, no_memory, unfinished, waiting, host_stop_status}
 
 -- why a server has stopped for good
 abbrev pub stop_status : Stop → ℕ

@@ -1,5 +1,5 @@
 -- What the calls of a server and of a recovery do.
-use Rattle.std.specs.Prelude.{◌≡◌, ◌⊎◌, ◌==◌, ℕ, List, ◌++◌, length, drop, slice_get, Bool, true, false, nat_lt, if◌then◌else◌, IfOk, Option, Some, None, Result, Ok, Err}
+use Rattle.std.specs.Prelude.{◌≡◌, ◌⊎◌, ◌==◌, ℕ, List, ◌++◌, length, drop, slice_get, Bool, true, false, nat_lt, if◌then◌else◌, IfOk, Option, Some, None, Result, Err}
 use Rattle.std.specs.Result.{result_ok}
 use Rattle.sam_link.specs.End.{End}
 use Rattle.sam_link.specs.Hellos.{ReadsHello}
@@ -22,11 +22,12 @@ use Rattle.sam_server.specs.declared.fault.CallFault.{CallFault}
 use Rattle.sam_server.specs.declared.fault.GoOnFault.{GoOnFault}
 use Rattle.sam_server.specs.declared.fault.HeirFault.{HeirFault}
 use Rattle.sam_server.specs.declared.recovery.RecoveryFault.{RecoveryFault}
-use Rattle.sam_c.specs.Calls.{AtHandle}
-use Rattle.sam_c.specs.LinkStatus.{feed_status, link_refusal, note_status, out_status, put_status}
-use Rattle.sam_c.specs.Links.{WithHello, handed_or, id_bytes}
+use Rattle.sam_handles.specs.Calls.{AtHandle, handed_or}
+use Rattle.sam_handles.specs.LinkIds.{id_bytes}
+use Rattle.sam_handles.specs.LinkStatus.{feed_status, link_refusal, note_status, out_status, put_status}
+use Rattle.sam_handles.specs.Status.{ok, no_memory, is_made, no_handle, no_room, nothing, add_status}
+use Rattle.sam_c.specs.Links.{WithHello}
 use Rattle.sam_c.specs.ServerStatus.{call_status, go_on_status, heir_status, recovery_status}
-use Rattle.sam_c.specs.Status.{ok, no_memory, is_made, no_handle, no_room, nothing, add_status}
 use Rattle.sam_c.specs.declared.server_effects.SamEffect.{SamEffect}
 
 -- a new one with this id, or why there is none and the handle is as before
@@ -49,8 +50,8 @@ abbrev pub Takes : {F : Type 0} → PlainRecord → (PlainDurableServer → F �
 Takes {F} taken refuses number d status g =
     (result : Result (Unit {0}) (CallFault F)) × TakesRecord d taken (refuses d) result g × (status ≡ call_status number result)
 
-abbrev pub ServerTook : {F : Type 0} → Option PlainDurableServer → PlainRecord → (PlainDurableServer → F → PlainDurableServer → Type 0) → (F → ℕ)
-    → ℕ → Option PlainDurableServer → Type 0
+abbrev pub ServerTook : {F : Type 0} → Option PlainDurableServer → PlainRecord → (PlainDurableServer → F → PlainDurableServer → Type 0)
+    → (F → ℕ) → ℕ → Option PlainDurableServer → Type 0
 ServerTook before taken refuses number status after = AtHandle before status after (Takes taken refuses number)
 
 -- the numbers of refusals, as a link's calls have them

@@ -1,8 +1,6 @@
 -- What the calls do that take bytes in and go on by single steps.
-use Rattle.std.specs.Prelude.{◌≡◌, ◌==◌, ℕ, Bool, false, List, [], slice_get, Option, option_map, Some, None, Result, Ok, Err}
-use Rattle.sam_mesg.specs.HostKinds.{kind_h}
+use Rattle.std.specs.Prelude.{◌≡◌, ℕ, List, slice_get, Option, option_map, Some, None, Result}
 use Rattle.sam_mesg.specs.TerminalKinds.{kind_t}
-use Rattle.sam_mesg.specs.declared.hmesg.Hmesg.TheVariants.{Hdata}
 use Rattle.sam_endpoint.specs.Naming.{file_of_t}
 use Rattle.sam_endpoint.specs.HostEndpoints.{PlainHostEndpoint}
 use Rattle.sam_endpoint.specs.HostRuns as host_call
@@ -14,13 +12,13 @@ use Rattle.sam_endpoint.specs.declared.fault.HostStop.{HostStop}
 use Rattle.sam_endpoint.specs.declared.fault.TermStop.{TermStop}
 use Rattle.sam_endpoint.specs.declared.step.BringFault.{BringFault}
 use Rattle.sam_endpoint.specs.declared.step.HostStep.{HostStep}
-use Rattle.sam_endpoint.specs.declared.step.HostStep.TheVariants as host
 use Rattle.sam_endpoint.specs.declared.step.NextFrame.{NextFrame}
 use Rattle.sam_endpoint.specs.declared.step.TermStep.{TermStep}
 use Rattle.sam_endpoint.specs.declared.step.TermStep.TheVariants as term
-use Rattle.sam_c.specs.declared.steps.SamDid.{SamDid}
-use Rattle.sam_c.specs.Status.{no_handle, bring_status, call_status, host_stop_status, term_stop_status, refusal_status}
-use Rattle.sam_c.specs.Calls.{AtHandle}
+use Rattle.sam_handles.specs.Calls.{AtHandle}
+use Rattle.sam_handles.specs.Did.{did_nothing, is_load, tag_or_zero, did_of_host, did_of_term, did_or}
+use Rattle.sam_handles.specs.Status.{no_handle, bring_status, call_status, host_stop_status, term_stop_status}
+use Rattle.sam_handles.specs.declared.did.SamDid.{SamDid}
 unfoldable use Rattle.sam_c.specs.Hosts.{HostDoes}
 unfoldable use Rattle.sam_c.specs.Terms.{TermDoes}
 
@@ -39,47 +37,6 @@ TermBrought before piece status after =
     × (status ≡ bring_status term_stop_status result))
 
 -- ## What a step did
-
--- a step of this number that says no more
-abbrev pub did_nothing : ℕ → SamDid
-did_nothing step =
-    record { event = 0; request = 0; count = 0; step = step; why = 0; start = 0; gone = 0; came = 0; task = 0; tag = 0; kind = 0; loads = false }
-
--- frames of this kind bring runes in the place of gaps, and change no text
-abbrev pub is_load : ℕ → Bool
-is_load kind = kind == kind_h (Hdata 0 0 [])
-
-abbrev pub tag_or_zero : Option ℕ → ℕ
-tag_or_zero None = 0
-tag_or_zero (Some tag) = tag
-
-abbrev pub did_of_host : HostStep → SamDid
-did_of_host host.Idle = did_nothing 0
-did_of_host host.Wrote = did_nothing 2
-did_of_host (host.Edited tag count) = record (did_nothing 3) { tag = tag; count = count }
-did_of_host (host.Answered kind tag) = record (did_nothing 4) { kind = kind; tag = tag_or_zero tag; count = 1 }
-
-abbrev pub did_of_term : TermStep → SamDid
-did_of_term term.Idle = did_nothing 0
-did_of_term term.Locked = did_nothing 1
-did_of_term term.Wrote = did_nothing 2
-did_of_term (term.Received kind tag change) =
-    record (did_nothing 5) {
-      kind = kind;
-      tag = tag_or_zero tag;
-      start = change.start;
-      gone = change.gone;
-      came = change.came;
-      loads = is_load kind;
-    }
-did_of_term (term.Acted number tag change) =
-    record (did_nothing 6) { event = number; tag = tag_or_zero tag; start = change.start; gone = change.gone; came = change.came }
-did_of_term (term.Refused number why) = record (did_nothing 7) { event = number; why = refusal_status why }
-
--- what a step did, or what stood there before
-abbrev pub did_or : {S F : Type 0} → (S → SamDid) → SamDid → Result S F → SamDid
-did_or did_of before (Ok step) = did_of step
-did_or did_of before (Err why) = before
 
 abbrev pub HostStepped : Option PlainHostEndpoint → SamDid → ℕ → SamDid → Option PlainHostEndpoint → Type 0
 HostStepped None before status after g = (status ≡ no_handle) × (after ≡ before) × (g ≡ None)

@@ -2,12 +2,10 @@
 use Rattle.std.specs.Prelude.{◌≡◌, ◌⊎◌, ◌≤◌, ℕ, List, [], ◌∷◌, length, Bool, true, false, Option, option_map, Some, None, Result, take}
 use Rattle.std.specs.Str.{encode_utf8_all, IsUtf8}
 use Rattle.sam_runes.specs.Reading.{AreRunes}
-use Rattle.sam_runes.specs.Slots.{slot}
 use Rattle.sam_rasp.specs.Rasp.{hole_within}
 use Rattle.sam_term.specs.Term.{is_open, rasp_at, view_end, window_of}
 use Rattle.sam_term.specs.declared.event.UserEvent.{UserEvent}
 use Rattle.sam_term.specs.declared.fault.Refusal.{Refusal}
-use Rattle.sam_term.specs.declared.records.KnownFile.{KnownFile}
 use Rattle.sam_term.specs.declared.records.Window.{Window}
 use Rattle.sam_endpoint.specs.declared.fault.EndpointFault.{EndpointFault}
 use Rattle.sam_endpoint.specs.declared.fault.FinishFault.{FinishFault}
@@ -17,9 +15,9 @@ use Rattle.sam_endpoint.specs.Changes.{asked, change_of, kept_at}
 use Rattle.sam_endpoint.specs.TermEndpoints.{PlainTermEndpoint, new_term_endpoint, Finishes}
 use Rattle.sam_endpoint.specs.TermRuns.{Call, Runs, Stops}
 use Rattle.sam_endpoint.specs.TermRuns as call
-use Rattle.sam_c.specs.Status.{ok, no_memory, is_made, no_handle, not_text, nothing, refusal_status, term_status, term_finish_status}
-use Rattle.sam_c.specs.Calls.{AtHandle, TellsOne}
-use Rattle.sam_c.specs.Hosts.{Takes}
+use Rattle.sam_handles.specs.Buffers.{Takes}
+use Rattle.sam_handles.specs.Calls.{AtHandle, TellsOne}
+use Rattle.sam_handles.specs.Status.{ok, no_memory, is_made, no_handle, not_text, nothing, refusal_status, term_status, term_finish_status}
 
 -- a new terminal, or why there is none and the handle is as before
 abbrev pub TermMade : Option PlainTermEndpoint → ℕ → Option PlainTermEndpoint → Type 0
@@ -104,13 +102,6 @@ dot_of e tag = option_map (λ w. w.dot) (window_of e.term tag)
 
 abbrev pub rasp_of : PlainTermEndpoint → ℕ → Option (List (Option ℕ))
 rasp_of e tag = option_map (λ w. w.rasp) (window_of e.term tag)
-
--- what the terminal knows of a tag
-abbrev pub known_of : PlainTermEndpoint → ℕ → Option KnownFile
-known_of e tag = slot e.term.files tag
-
-abbrev pub open_of : PlainTermEndpoint → ℕ → Option Window
-open_of e tag = window_of e.term tag
 
 -- what a window shows: the places where its view begins and ends
 abbrev pub shown_of : Window → ℕ × ℕ

@@ -9,8 +9,8 @@ use Rattle.sam_endpoint.specs.declared.fault.TermStop.{TermStop}
 use Rattle.sam_endpoint.specs.TermEndpoints.{PlainTermEndpoint}
 use Rattle.sam_endpoint.specs.TermRuns.{Call, Runs}
 use Rattle.sam_endpoint.specs.TermRuns as call
+use Rattle.sam_handles.specs.Status.{no_memory, no_handle, not_text, term_status}
 use Rattle.sam_c.specs.declared.term_typing.TypedText.{TypedText}
-use Rattle.sam_c.specs.Status.{no_memory, no_handle, not_text, term_status}
 unfoldable use Rattle.sam_c.specs.Terms.{TermDoes}
 
 -- the first n pieces of a text, of 512 runes each

@@ -2,14 +2,15 @@
 //! `SAM_NO_HANDLE`, `SAM_NONE` and `SAM_NO_MEMORY` what its other arguments lead to is as it was.
 
 ghost use Rattle.std.specs.Prelude.{◌≡◌, length};
-ghost use Rattle.sam_c.specs.Calls.{Reports};
-ghost use Rattle.sam_c.specs.Hosts.{Freed, HostAdded, HostFed, HostFinished, HostMade, HostMarked, HostNextWritten, HostTaken};
+ghost use Rattle.sam_handles.specs.Calls.{Reports, Freed};
+ghost use Rattle.sam_c.specs.Hosts.{HostAdded, HostFed, HostFinished, HostMade, HostMarked, HostNextWritten, HostTaken};
 
-use crate::handle::{SamHost, with_end};
-use crate::status::{
+use sam_endpoint::HostEndpoint;
+use sam_handles::handle::SamHost;
+use sam_handles::status::{
     MADE, NO_HANDLE, NO_MEMORY, NONE, OK, add_status, host_finish_status, host_status, mark_status,
 };
-use sam_endpoint::HostEndpoint;
+use sam_handles::with_end;
 use std::alloc::Global;
 
 /// Makes a host with the command file alone (tag 0). Errors, in this order: `SAM_MADE` if the handle is made already; `SAM_NO_MEMORY`.

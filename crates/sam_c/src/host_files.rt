@@ -3,12 +3,12 @@
 ghost use Rattle.std.specs.Prelude.{drop, length, option_map};
 ghost use Rattle.sam_runes.specs.Slots.{slot};
 ghost use Rattle.sam_text.specs.Files.{file_at};
-ghost use Rattle.sam_c.specs.Buffers.{countable};
-ghost use Rattle.sam_c.specs.Calls.{TellsOne, Writes, WritesName, written};
+ghost use Rattle.sam_handles.specs.Buffers.{countable};
+ghost use Rattle.sam_handles.specs.Calls.{TellsOne, Writes, WritesName, written};
 
-use crate::status::NONE;
-use crate::telling::tell;
-use crate::utf8::{count, countable, runes_from, tell_name, tell_text};
+use sam_handles::status::NONE;
+use sam_handles::telling::tell;
+use sam_handles::utf8::{count, countable, runes_from, tell_name, tell_text};
 use sam_host::Host;
 
 /// Puts the first runes of a file's name into the buffer.

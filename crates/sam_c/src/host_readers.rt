@@ -3,18 +3,19 @@
 //! runes from the beginning of the text.
 
 ghost use Rattle.std.specs.Prelude.{◌≡◌, Some, drop, is_some, length, option_map};
-ghost use Rattle.sam_c.specs.Buffers.{countable};
-ghost use Rattle.sam_c.specs.Calls.{Reports, ReportsName, ReportsSome, ReportsText, written};
-ghost use Rattle.sam_c.specs.Hosts.{dot_of, file_of, saved_of};
 ghost use Rattle.sam_endpoint.specs.HostEndpoints.{fault_place};
+ghost use Rattle.sam_handles.specs.Buffers.{countable};
+ghost use Rattle.sam_handles.specs.Calls.{Reports, ReportsName, ReportsSome, ReportsText, written};
+ghost use Rattle.sam_c.specs.Hosts.{dot_of, file_of, saved_of};
 
-use crate::handle::{SamHost, with_end};
 use crate::host_files::{
     tell_file_len, tell_file_name, tell_file_text, tell_is_dirty, tell_saved, tell_saved_len,
 };
-use crate::status::{NO_HANDLE, OK};
-use crate::telling::{tell_some, tell_two};
-use crate::utf8::{count, countable, runes_from, tell_text};
+use sam_handles::handle::SamHost;
+use sam_handles::status::OK;
+use sam_handles::telling::{tell_some, tell_two};
+use sam_handles::utf8::{count, countable, runes_from, tell_text};
+use sam_handles::with_end;
 use std::alloc::Global;
 
 /// Hands out whether the session is over: the terminal has sent Texit, or a command line was `q`.

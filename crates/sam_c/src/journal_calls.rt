@@ -1,12 +1,13 @@
-//! What C calls to write and read the bytes of a journal: include/sulgrevad.h says what each call does. None takes a handle or memory. A call
-//! returns a number of `sam_status`; after `SAM_NONE` and each refusal but `SAM_JOURNAL_DAMAGED` what its other arguments lead to is as it was.
+//! What C calls to write and read the bytes of a journal: include/sulgrevad.h says what each call does. None takes a handle or memory. A
+//! call returns a number of `sam_status`; after `SAM_NONE` and each refusal but `SAM_JOURNAL_DAMAGED` what its other arguments lead to is
+//! as it was.
 
 ghost use Rattle.std.specs.Prelude.{◌≡◌, ◌<◌, ◌+◌, ◌^◌};
 ghost use Rattle.sam_journal.specs.Files.{head};
+ghost use Rattle.sam_handles.specs.Status.{ok};
 ghost use Rattle.sam_c.specs.Journals.{JournalRead, NextRecord, RecordFramed, read_status, told, told_record};
-ghost use Rattle.sam_c.specs.Status.{ok};
 
-use crate::status::{NONE, OK};
+use sam_handles::status::{NONE, OK};
 use sam_journal::{
     FRONT_BYTES, Frame, Next, RECORD_BYTES, ReadFault, Record, frame_of, head, next_record, read,
 };

@@ -1,33 +1,20 @@
-//! The host, the terminal, an overlay, a client, a link, a line, a durable server and messages for C, and the replay of scripts. Each
-//! export does what a call of a lower crate does, and states its clauses again over the value that the handle holds, or over the bytes that
-//! it is given. What a C program owes, and what each call does, stands in include/sulgrevad.h.
+//! The host, the terminal, an overlay, a link, a line, a durable server and messages for C, and the replay of scripts. Each export does
+//! what a call of a lower crate does, and states its clauses again over the value that the handle holds, or over the bytes that it is
+//! given. What a C program owes, and what each call does, stands in include/sulgrevad.h.
 #![tactic(auto)]
 
-mod client_calls;
-mod client_end;
-mod client_events;
-mod client_readers;
-mod client_status;
-mod client_tasks;
-mod handle;
 mod host_calls;
 mod host_files;
 mod host_readers;
 mod journal_calls;
 mod line_calls;
 mod line_readers;
-mod line_status;
 mod link_calls;
-mod link_status;
-mod measures;
-mod members;
 mod note_calls;
 mod overlay_calls;
 mod overlay_drops;
 mod overlay_events;
 mod overlay_readers;
-mod overlay_status;
-mod parts;
 mod recovery_calls;
 mod scripts;
 mod server_calls;
@@ -37,25 +24,15 @@ mod server_heir;
 mod server_readers;
 mod server_records;
 mod server_status;
-mod snapshots;
-mod status;
 mod steps;
-mod telling;
 mod term_calls;
 mod term_events;
 mod term_readers;
 mod term_texts;
 mod term_typing;
-mod utf8;
 
-pub use handle::{SamClient, SamHost, SamLine, SamLink, SamOverlay, SamTerm};
 pub use journal_calls::{SamJournalHead, SamRecord, SamRecordFrame};
-pub use line_readers::SamLineDetails;
-pub use link_calls::{SamLinkHello, SamLinkId};
+pub use link_calls::SamLinkHello;
 pub use note_calls::SamNote;
-pub use overlay_calls::SamSplice;
-pub use overlay_events::SamEvent;
 pub use server_effects::SamEffect;
 pub use server_handle::{SamRecovery, SamServer};
-pub use snapshots::{SamTermFile, SamTermState};
-pub use steps::SamDid;

@@ -3,16 +3,17 @@
 
 ghost use Rattle.std.specs.Prelude.{◌≤◌, false, length};
 ghost use Rattle.sam_line.specs.Calls.LineCall.{Acknowledge, AddressChanged, Ask, Broken, Expect, NotConnected, Put};
-ghost use Rattle.sam_c.specs.Hosts.{Freed};
-ghost use Rattle.sam_c.specs.Lines.{LineConnected, LineDone, LineMade, LineNextNote, LineNote, LineNotePut, LinePut};
-ghost use Rattle.sam_c.specs.Lines.{LineReceived, LineTakenIn, LineTakenOut, LineTicked};
+ghost use Rattle.sam_handles.specs.Calls.{Freed};
+ghost use Rattle.sam_c.specs.Lines.{LineConnected, LineDone, LineMade, LineNextNote, LineNote, LineNotePut, LinePut, LineReceived, LineTakenIn};
+ghost use Rattle.sam_c.specs.Lines.{LineTakenOut, LineTicked};
 
-use crate::handle::{SamLine, with_end};
-use crate::line_status::{receive_status, tick_number};
-use crate::link_calls::SamLinkId;
-use crate::link_status::{NO_ROOM, call_fault, note_status, out_fault, put_status};
-use crate::status::{MADE, NO_HANDLE, NO_MEMORY, OK};
-use crate::telling::tell_some;
+use sam_handles::handle::SamLine;
+use sam_handles::line_status::{receive_status, tick_number};
+use sam_handles::link_id::SamLinkId;
+use sam_handles::link_status::{NO_ROOM, call_fault, note_status, out_fault, put_status};
+use sam_handles::status::{MADE, NO_HANDLE, NO_MEMORY, OK};
+use sam_handles::telling::tell_some;
+use sam_handles::with_end;
 use sam_line::Line;
 use sam_link::MOST_BODY;
 use std::alloc::Global;

@@ -2,68 +2,29 @@
 //! `SAM_NO_HANDLE`, `SAM_NONE` and each refusal what its other arguments lead to is as it was.
 
 ghost use Rattle.std.specs.Prelude.{◌≡◌, ◌≤◌, ◌+◌, ◌-◌, false, length};
-ghost use Rattle.sam_mesg.specs.Spelling.{eight};
 ghost use Rattle.sam_link.specs.Calls.Call.{Acknowledge, Ask, Put};
-ghost use Rattle.sam_link.specs.Sessions.{IsId};
-ghost use Rattle.sam_c.specs.Calls.{Reports};
-ghost use Rattle.sam_c.specs.Hosts.{Freed};
-ghost use Rattle.sam_c.specs.LinkStatus.{phase_number};
-ghost use Rattle.sam_c.specs.Links.{FedInto, FedPlaces, HelloTold, LinkAnswered, LinkBroken, LinkCalled, LinkFed, LinkFedInto};
-ghost use Rattle.sam_c.specs.Links.{LinkFedPlaces, LinkMade, LinkNextNote, LinkNotePut, LinkPut, LinkTakenIn, LinkTakenOut, LinkWelcomed};
-ghost use Rattle.sam_c.specs.Links.{NextNote, RefusalWritten, TakesAnswer, TakesWelcome, id_bytes, refusing, told};
+ghost use Rattle.sam_handles.specs.Calls.{Reports, Freed};
+ghost use Rattle.sam_handles.specs.LinkStatus.{phase_number};
+ghost use Rattle.sam_c.specs.Links.{FedInto, FedPlaces, HelloTold, LinkAnswered, LinkBroken, LinkCalled, LinkFed, LinkFedInto, LinkFedPlaces};
+ghost use Rattle.sam_c.specs.Links.{LinkMade, LinkNextNote, LinkNotePut, LinkPut, LinkTakenIn, LinkTakenOut, LinkWelcomed, NextNote, RefusalWritten};
+ghost use Rattle.sam_c.specs.Links.{TakesAnswer, TakesWelcome, refusing, told};
 
-use crate::handle::{SamLink, with_end};
-use crate::link_status::{
+use sam_handles::handle::SamLink;
+use sam_handles::link_id::SamLinkId;
+use sam_handles::link_status::{
     NO_ROOM, WRONG_ROLE, answer_status, call_fault, feed_status, link_refusal, note_status,
     out_fault, phase_number, put_status, refusal_of, role_of, welcome_status, what_number,
 };
-use crate::status::{MADE, NO_HANDLE, NO_MEMORY, NONE, OK};
-use sam_link::{HELLO_BYTES, Hello, Id, Link, MOST_BODY, Place, Refusal, What, read_hello};
+use sam_handles::status::{MADE, NO_HANDLE, NO_MEMORY, NONE, OK};
+use sam_handles::with_end;
+use sam_link::{Hello, Id, Link, MOST_BODY, Place, Refusal, What, read_hello};
 use std::alloc::Global;
-
-/// The id of a session: 16 bytes.
-#[repr(C)]
-pub struct SamLinkId {
-    /// The bytes.
-    pub bytes: [u8; 16],
-}
 
 /// The bytes of a hello.
 #[repr(C)]
 pub struct SamLinkHello {
     /// The bytes.
     pub bytes: [u8; 42],
-}
-
-/// Reads the number of eight bytes.
-fn number_of(bytes: &[u8]) -> u64
-    requires { length bytes.now ≡ 8 }
-    ensures { eight result ≡ bytes.now }
-{
-    u64::from_be_bytes([
-        bytes[0], bytes[1], bytes[2], bytes[3], bytes[4], bytes[5], bytes[6], bytes[7],
-    ])
-}
-
-impl SamLinkId {
-    /// Returns the id that the bytes spell.
-    pub(crate) fn to_id(&self) -> Id
-        ensures bytes { id_bytes result ≡ self.now.bytes }
-        ensures numbers { IsId result }
-    {
-        Id {
-            first: number_of(&self.bytes[..8]),
-            last: number_of(&self.bytes[8..]),
-        }
-    }
-
-    /// Puts the bytes of an id there.
-    fn set(&mut self, id: Id)
-        ensures { self.new.bytes ≡ id_bytes id }
-    {
-        self.bytes[..8].copy_from_slice(&id.first.to_be_bytes());
-        self.bytes[8..].copy_from_slice(&id.last.to_be_bytes());
-    }
 }
 
 /// Makes the end of the side of this number, with this id. Errors, in this order: `SAM_MADE` if the handle is made already;

@@ -2,13 +2,11 @@
 //! returns a number of `sam_status`; after each refusal what its other arguments lead to is as it was.
 
 ghost use Rattle.std.specs.Prelude.{◌≡◌};
-ghost use Rattle.sam_c.specs.Notes.{NoteRead, NoteWritten, fault_status, told_note};
+ghost use Rattle.sam_c.specs.Notes.{NoteRead, NoteWritten, told_note};
 
-use crate::status::OK;
+use sam_handles::note_status::fault_status;
+use sam_handles::status::OK;
 use sam_note::{Head, Note, NoteFault, NoteKind, read_note, write_note};
-
-/// Added to the number, from 1, of why bytes are no message, or why a message is not written.
-const NOTE: u32 = 224;
 
 /// A message: `sam_note` of include/sulgrevad.h.
 #[repr(C)]
@@ -36,13 +34,6 @@ pub struct SamNote {
     pub text_at: usize,
     /// How many bytes it has.
     pub text_len: usize,
-}
-
-/// Returns the number of why bytes are no message, or why a message is not written.
-pub(crate) fn fault_status(why: NoteFault) -> u32
-    ensures { result ≡ fault_status why }
-{
-    NOTE + why as u32
 }
 
 /// Returns a message that was read, as C has it.

@@ -2,36 +2,22 @@
 //! `sam_status`; after `SAM_NO_HANDLE`, `SAM_NONE` and each refusal what its other arguments lead to is as it was.
 
 ghost use Rattle.std.specs.Prelude.{◌≡◌, length, min, take, drop, ◌++◌};
-ghost use Rattle.sam_c.specs.Hosts.{Freed};
-ghost use Rattle.sam_c.specs.Overlays.{OverlayActed, OverlayBrought, OverlayFinished, OverlayMade, OverlayNextRefusal, OverlayNextSplice};
-ghost use Rattle.sam_c.specs.Overlays.{OverlayPut, OverlayReplaced, OverlayReplacedBy, OverlayStepped, OverlayTaken};
-ghost use Rattle.sam_c.specs.Overlays.{did_of_shown, over_end, told_splice};
+ghost use Rattle.sam_handles.specs.Calls.{Freed};
+ghost use Rattle.sam_c.specs.Overlays.{OverlayActed, OverlayBrought, OverlayFinished, OverlayMade, OverlayNextRefusal, OverlayNextSplice, OverlayPut};
+ghost use Rattle.sam_c.specs.Overlays.{OverlayReplaced, OverlayReplacedBy, OverlayStepped, OverlayTaken, did_of_shown, over_end};
 
-use crate::handle::{SamOverlay, with_end};
-use crate::overlay_status::{put_fault, put_number, replace_fault, splice_number, turn_number};
-use crate::status::{
-    MADE, NO_HANDLE, NO_MEMORY, NONE, OK, WAITING, refusal_status, term_bring_status,
+use sam_handles::did::{SamDid, did_of_term};
+use sam_handles::handle::SamOverlay;
+use sam_handles::overlay_status::{put_fault, put_number, replace_fault, turn_number};
+use sam_handles::splice::{SamSplice, told_splice};
+use sam_handles::status::{
+    MADE, NO_HANDLE, NO_MEMORY, NONE, OK, WAITING, read_status, refusal_status, term_bring_status,
     term_finish_status, term_status,
 };
-use crate::steps::{SamDid, did_of_term};
-use crate::term_events::read_status;
+use sam_handles::with_end;
 use sam_runes::read_utf8;
-use sam_shown::{ShownEnd, ShownStep, Splice};
+use sam_shown::{ShownEnd, ShownStep};
 use std::alloc::Global;
-
-/// A change of the shown text of a file: `sam_splice` of include/sulgrevad.h.
-#[repr(C)]
-#[derive(Clone, Copy, Drop)]
-pub struct SamSplice {
-    /// A number of `sam_splice_kind`.
-    pub kind: u32,
-    /// The place where it begins.
-    pub place: u32,
-    /// How many runes or gaps it is about.
-    pub count: u32,
-    /// The file.
-    pub tag: u16,
-}
 
 /// Makes an overlay over a terminal that knows no file. Errors, in this order: `SAM_MADE` if the handle is made already; `SAM_NO_MEMORY`.
 /// After an error the handle is as it was.
@@ -104,18 +90,6 @@ pub extern "C" fn sam_overlay_step(overlay: &mut SamOverlay, did: &mut SamDid, a
             WAITING
         }
     })
-}
-
-/// Returns a splice, as C has it.
-pub(crate) fn told_splice(splice: Splice) -> SamSplice
-    ensures { result ≡ told_splice splice }
-{
-    SamSplice {
-        kind: splice_number(splice.kind),
-        place: splice.place,
-        count: splice.count,
-        tag: splice.tag,
-    }
 }
 
 /// Hands out the next change of what is shown by the last step. `SAM_NO_HANDLE` if the handle is empty; `SAM_NONE` if none is left.

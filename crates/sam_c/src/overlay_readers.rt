@@ -4,72 +4,22 @@
 
 ghost use Rattle.std.specs.Prelude.{◌≡◌, Some, drop, length, option_map};
 ghost use Rattle.sam_endpoint.specs.TermEndpoints.{fault_place};
-ghost use Rattle.sam_overlay.specs.Calls.{shown_at, waiting_at};
-ghost use Rattle.sam_c.specs.Buffers.{countable};
-ghost use Rattle.sam_c.specs.Calls.{Reports, ReportsCells, ReportsName, ReportsSome, ReportsText, Writes, WritesCells, WritesName, written};
-ghost use Rattle.sam_c.specs.Measures.{front_runes};
-ghost use Rattle.sam_c.specs.Overlays.{OverlayNextWaiting, gap_of, text_of};
-ghost use Rattle.sam_c.specs.Snapshots.{file_state, term_state};
-ghost use Rattle.sam_c.specs.Terms.{known_of};
+ghost use Rattle.sam_overlay.specs.Calls.{waiting_at};
+ghost use Rattle.sam_handles.specs.Buffers.{countable};
+ghost use Rattle.sam_handles.specs.Calls.{Reports, ReportsCells, ReportsName, ReportsSome, ReportsText, written};
+ghost use Rattle.sam_handles.specs.Measures.{front_runes};
+ghost use Rattle.sam_handles.specs.Shown.{gap_of, text_of};
+ghost use Rattle.sam_handles.specs.Snapshots.{file_state, term_state, known_of};
+ghost use Rattle.sam_c.specs.Overlays.{OverlayNextWaiting};
 
-use crate::handle::{SamOverlay, with_end};
-use crate::measures::tell_front;
-use crate::members::{Members, read_members};
-use crate::snapshots::{SamTermFile, SamTermState, file_of, state_of};
-use crate::status::{NO_HANDLE, NONE, OK};
-use crate::telling::tell_some;
-use crate::term_readers::known_file;
-use crate::utf8::{countable, runes_from, tell_name, tell_text};
-use sam_endpoint::TermEndpoint;
-use sam_overlay::Overlay;
+use sam_handles::handle::SamOverlay;
+use sam_handles::shown::{read_shown, tell_file_name, tell_shown};
+use sam_handles::snapshots::{SamTermFile, SamTermState, file_of, state_of};
+use sam_handles::status::OK;
+use sam_handles::telling::tell_some;
+use sam_handles::utf8::{countable, runes_from, tell_name, tell_text};
+use sam_handles::with_end;
 use std::alloc::Global;
-
-/// Puts the name of a file that a terminal knows into the buffer. `NONE` if it knows no file of this tag.
-pub(crate) fn tell_file_name(end: &TermEndpoint, tag: u16, into: &mut [u8], len: &mut usize) -> u32
-    ensures { WritesName (option_map (λ f. f.name) (known_of end.now tag)) result into.old into.new len.old len.new }
-{
-    match known_file(end, tag) {
-        Some(file) => tell_name(file.name.as_slice(), into, len),
-        None => NONE,
-    }
-}
-
-/// Puts what is shown of an open file from a place on, up to the first gap, into the buffer. `NONE` if it is not open.
-pub(crate) fn tell_shown(
-    overlay: &Overlay,
-    tag: u16,
-    place: u32,
-    into: &mut [u8],
-    bytes: &mut usize,
-    runes: &mut u32,
-) -> u32
-    ensures { Writes (option_map (λ text. front_runes (drop place text)) (text_of overlay.now tag)) result
-        (written into.old bytes.old runes.old) (written into.new bytes.new runes.new) }
-{
-    match Members::shown(overlay, tag) {
-        Some(members) => tell_front(members, place, into, bytes, runes),
-        None => NONE,
-    }
-}
-
-/// Puts what is shown of an open file from a place on into the buffer as numbers. `NONE` if it is not open.
-pub(crate) fn read_shown(
-    overlay: &Overlay,
-    tag: u16,
-    place: u32,
-    into: &mut [u32],
-    count: &mut u32,
-) -> u32
-    ensures { WritesCells (text_of overlay.now tag) place result into.old into.new count.old count.new }
-{
-    match Members::shown(overlay, tag) {
-        Some(members) => {
-            *count = read_members(members, place, into);
-            OK
-        }
-        None => NONE,
-    }
-}
 
 /// Hands out what the terminal holds, in one call.
 #[unsafe(no_mangle)]

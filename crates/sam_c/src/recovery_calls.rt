@@ -4,13 +4,13 @@ ghost use Rattle.std.specs.Prelude.{◌≡◌};
 ghost use Rattle.std.specs.Result.{result_map_both};
 ghost use Rattle.sam_server.specs.Recovering.{Retakes};
 ghost use Rattle.sam_server.specs.Servers.{new_server};
-ghost use Rattle.sam_c.specs.Hosts.{Freed};
+ghost use Rattle.sam_handles.specs.Calls.{Freed};
 ghost use Rattle.sam_c.specs.Servers.{MadeWith, RecoveryFinished, RecoveryTook};
 
-use crate::link_calls::SamLinkId;
 use crate::server_handle::{SamRecovery, SamServer};
 use crate::server_status::recovery_fault;
-use crate::status::{MADE, NO_HANDLE, NO_MEMORY, OK};
+use sam_handles::link_id::SamLinkId;
+use sam_handles::status::{MADE, NO_HANDLE, NO_MEMORY, OK};
 use sam_link::Id;
 use sam_server::{DurableServer, Recovery, RecoveryFault};
 use std::alloc::Global;

@@ -1,12 +1,24 @@
 //! What C calls to replay a script: include/sulgrevad.h says what the call does.
 
 ghost use Rattle.std.specs.Prelude.{◌≡◌};
-ghost use Rattle.sam_c.specs.Scripts.{Replays, filled, handed, line_or};
-ghost use Rattle.sam_c.specs.Status.{script_status};
+ghost use Rattle.sam_c.specs.Scripts.{Replays, filled, handed, line_or, script_status};
 
-use crate::status::{OK, script_status};
+use sam_handles::status::{NO_MEMORY, OK};
 use sam_script::{ScriptFault, replay_bytes};
 use std::alloc::Global;
+
+/// Added to the number of why a script is not replayed.
+const SCRIPT: u32 = 160;
+
+/// Returns the number of why a script is not replayed.
+fn script_status(why: ScriptFault) -> u32
+    ensures { result ≡ script_status why }
+{
+    match why {
+        ScriptFault::OutOfMemory => NO_MEMORY,
+        ScriptFault::Line(_) | ScriptFault::CountFull => SCRIPT + why.number() as u32,
+    }
+}
 
 /// Replays the script that the bytes spell. Puts the first bytes of what it prints into the buffer, as many as have room, and hands out
 /// how many bytes it prints in all.

@@ -4,19 +4,19 @@
 ghost use Rattle.sam_link.specs.End.{broken};
 ghost use Rattle.sam_server.specs.DurableServers.{RefusesAcknowledge, RefusesAsk, RefusesMark, RefusesNote, RefusesPiece, new_durable_server, with_link};
 ghost use Rattle.sam_server.specs.Records.{Acknowledged, Asked, Came, Marked, Said};
-ghost use Rattle.sam_c.specs.Hosts.{Freed};
-ghost use Rattle.sam_c.specs.Servers.{MadeWith, ServerAccepted, ServerAdded, ServerDone, ServerTakenOut, ServerTook, ServerWentOn, TakesHello};
-ghost use Rattle.sam_c.specs.Servers.{Takes, feed_refusal, note_refusal, put_refusal};
-ghost use Rattle.sam_c.specs.Status.{mark_status};
+ghost use Rattle.sam_handles.specs.Calls.{Freed};
+ghost use Rattle.sam_handles.specs.Status.{mark_status};
+ghost use Rattle.sam_c.specs.Servers.{MadeWith, ServerAccepted, ServerAdded, ServerDone, ServerTakenOut, ServerTook, ServerWentOn, TakesHello, Takes};
+ghost use Rattle.sam_c.specs.Servers.{feed_refusal, note_refusal, put_refusal};
 
-use crate::handle::with_end;
-use crate::link_calls::SamLinkId;
-use crate::link_status::{feed_status, link_refusal, note_status, out_fault, put_status};
 use crate::server_handle::SamServer;
 use crate::server_status::{fault_number, stop_status};
-use crate::status::{
+use sam_handles::link_id::SamLinkId;
+use sam_handles::link_status::{feed_status, link_refusal, note_status, out_fault, put_status};
+use sam_handles::status::{
     MADE, NO_HANDLE, NO_MEMORY, NONE, OK, UNFINISHED, WAITING, add_status, mark_status,
 };
+use sam_handles::with_end;
 use sam_link::read_hello;
 use sam_server::{CallFault, DurableServer, GoOnFault};
 use std::alloc::Global;
@@ -54,8 +54,8 @@ pub extern "C" fn sam_server_free(server: &mut SamServer, alloc: Global) -> u32
 /// Adds a file, and hands out its tag. The name and the text are UTF-8.
 ///
 /// Errors, in this order: `SAM_NO_HANDLE`; why the server has stopped; `SAM_WAITING`; `SAM_NO_MEMORY`; the refusals of `sam_host_add_file`;
-/// `SAM_UNFINISHED`, after which the file has joined under the next tag. After an error the tag is as it was, and after all but the last the
-/// server too.
+/// `SAM_UNFINISHED`, after which the file has joined under the next tag. After an error the tag is as it was, and after all but the last
+/// the server too.
 #[unsafe(no_mangle)]
 pub extern "C" fn sam_server_add_file(
     server: &mut SamServer,
@@ -94,8 +94,8 @@ fn accept(end: &mut DurableServer, bytes: &[u8]) -> u32
 /// Takes the connection of this hello, and the one before is over.
 ///
 /// Errors, in this order: `SAM_NO_HANDLE`; those of [`read_hello`], and `SAM_NONE` of fewer than 42 bytes; why the server has stopped;
-/// `SAM_WAITING`; `SAM_NO_MEMORY`; the refusals of a link; `SAM_UNFINISHED`, after which the connection is taken. After all but the last the
-/// server is as it was.
+/// `SAM_WAITING`; `SAM_NO_MEMORY`; the refusals of a link; `SAM_UNFINISHED`, after which the connection is taken. After all but the last
+/// the server is as it was.
 #[unsafe(no_mangle)]
 pub extern "C" fn sam_server_accept(server: &mut SamServer, bytes: &[u8], alloc: Global) -> u32
     ensures { ServerAccepted server.old.held.end bytes.now result server.new.held.end }

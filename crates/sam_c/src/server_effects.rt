@@ -5,16 +5,16 @@ ghost use Rattle.std.specs.Prelude.{◌≡◌, option_map};
 ghost use Rattle.sam_server.specs.DurableServers.{RefusesEffect, effect_due};
 ghost use Rattle.sam_server.specs.Records.{Done};
 ghost use Rattle.sam_server.specs.Turns.{plain_effect};
-ghost use Rattle.sam_c.specs.Calls.{ReportsSome};
+ghost use Rattle.sam_handles.specs.Calls.{ReportsSome};
+ghost use Rattle.sam_handles.specs.Status.{nothing};
 ghost use Rattle.sam_c.specs.Servers.{ReportsWhole, ServerTook, closed_name, closed_text, copied, heard, told_effect};
-ghost use Rattle.sam_c.specs.Status.{nothing};
 
-use crate::handle::with_end;
 use crate::server_handle::SamServer;
 use crate::server_records::copy_whole;
 use crate::server_status::{fault_number, stop_status};
-use crate::status::{NO_HANDLE, NO_MEMORY, NONE, OK, UNFINISHED, WAITING};
-use crate::telling::tell;
+use sam_handles::status::{NO_MEMORY, NONE, OK, UNFINISHED, WAITING};
+use sam_handles::telling::tell;
+use sam_handles::with_end;
 use sam_server::{CallFault, Effect};
 use std::alloc::Global;
 
@@ -62,8 +62,8 @@ fn told_effect(effect: &Effect) -> SamEffect
     }
 }
 
-/// Hands out the effect that is to be done now. `SAM_NO_HANDLE` if the handle is empty; `SAM_NONE` if there is none, or if its record is not
-/// durable yet.
+/// Hands out the effect that is to be done now. `SAM_NO_HANDLE` if the handle is empty; `SAM_NONE` if there is none, or if its record is
+/// not durable yet.
 #[unsafe(no_mangle)]
 pub extern "C" fn sam_server_next_effect(
     server: &mut SamServer,

@@ -1,11 +1,11 @@
 //! The handles of a durable server and of a recovery, as those of handle.rt.
 
 ghost use Rattle.std.specs.Prelude.{◌≡◌, None, Option, Some, eqb, is_some, option_map};
-ghost use Rattle.sam_c.specs.ServerHandles.{held_recovery_coded, held_server_coded, holds_recovery, holds_server, recovery_mark, server_mark};
 ghost use Rattle.sam_server.specs.DurableServers.{PlainDurableServer};
 ghost use Rattle.sam_server.specs.Servers.{Server as PlainServer};
+ghost use Rattle.sam_c.specs.ServerHandles.{held_recovery_coded, held_server_coded, holds_recovery, holds_server, recovery_mark, server_mark};
 
-use crate::parts::Parts;
+use sam_handles::parts::Parts;
 use sam_server::{DurableServer, Recovery};
 use std::alloc::Global;
 use std::marker::Model;

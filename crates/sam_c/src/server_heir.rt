@@ -5,11 +5,11 @@ ghost use Rattle.std.specs.Result.{result_map_both};
 ghost use Rattle.sam_server.specs.Heirs.{Inherits};
 ghost use Rattle.sam_c.specs.Servers.{ServerInherited};
 
-use crate::handle::with_end;
-use crate::link_calls::SamLinkId;
 use crate::server_handle::SamServer;
 use crate::server_status::heir_fault;
-use crate::status::{MADE, NO_HANDLE, OK};
+use sam_handles::link_id::SamLinkId;
+use sam_handles::status::{MADE, OK};
+use sam_handles::with_end;
 use sam_link::Id;
 use sam_server::{DurableServer, HeirFault};
 use std::alloc::Global;

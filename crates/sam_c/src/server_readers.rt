@@ -1,21 +1,21 @@
 //! What C reads of the host of a durable server: include/sulgrevad.h says of each call what it hands out. None of them changes the server.
-//! Each returns `SAM_NO_HANDLE` if the handle is empty; after that, and after `SAM_NONE`, what its other arguments lead to is as it was. Places
-//! count runes from the beginning of the text.
+//! Each returns `SAM_NO_HANDLE` if the handle is empty; after that, and after `SAM_NONE`, what its other arguments lead to is as it was.
+//! Places count runes from the beginning of the text.
 
 ghost use Rattle.std.specs.Prelude.{◌≡◌, ◌+◌, Some, drop, is_some, length, option_map};
-ghost use Rattle.sam_c.specs.Buffers.{countable};
-ghost use Rattle.sam_c.specs.Calls.{Reports, ReportsName, ReportsSome, ReportsText, written};
+ghost use Rattle.sam_handles.specs.Buffers.{countable};
+ghost use Rattle.sam_handles.specs.Calls.{Reports, ReportsName, ReportsSome, ReportsText, written};
 ghost use Rattle.sam_c.specs.Hosts.{file_of, saved_of};
 ghost use Rattle.sam_c.specs.Servers.{host_of, link_of};
 
-use crate::handle::with_end;
 use crate::host_files::{
     tell_file_len, tell_file_name, tell_file_text, tell_is_dirty, tell_is_open, tell_saved,
     tell_saved_len,
 };
 use crate::server_handle::SamServer;
-use crate::status::{NO_HANDLE, OK};
-use crate::utf8::{count, countable, runes_from, tell_text};
+use sam_handles::status::OK;
+use sam_handles::utf8::{count, countable, runes_from, tell_text};
+use sam_handles::with_end;
 use std::alloc::Global;
 
 /// Hands out whether the session is over: the terminal has sent Texit, or a command line was `q`.

@@ -3,13 +3,13 @@
 
 ghost use Rattle.std.specs.Prelude.{◌≡◌, length, option_map, slice_get};
 ghost use Rattle.sam_server.specs.DurableServers.{durable_by};
-ghost use Rattle.sam_c.specs.Calls.{ReportsSome};
+ghost use Rattle.sam_handles.specs.Calls.{ReportsSome};
 ghost use Rattle.sam_c.specs.Servers.{Copies, CopiesSome, ServerDone, ServerNextRecord, copied, is_short, left_after};
 
-use crate::handle::with_end;
 use crate::server_handle::SamServer;
-use crate::status::{NO_HANDLE, NO_ROOM, NONE, OK};
-use crate::telling::tell;
+use sam_handles::status::{NO_ROOM, NONE, OK};
+use sam_handles::telling::tell;
+use sam_handles::with_end;
 use sam_server::DurableServer;
 use std::alloc::Global;
 

@@ -3,7 +3,7 @@
 ghost use Rattle.std.specs.Prelude.{◌≡◌};
 ghost use Rattle.sam_c.specs.ServerStatus.{heir_fault, recovery_fault, stop_status};
 
-use crate::status::{NO_MEMORY, WAITING, host_stop_status};
+use sam_handles::status::{NO_MEMORY, WAITING, host_stop_status};
 use sam_server::{HeirFault, RecoveryFault, Stop};
 
 /// Added to the number, from 1, of why a server has stopped, a record is not taken again, or another server doesn't begin.

@@ -2,15 +2,15 @@
 //! `sam_status`; after `SAM_NO_HANDLE` and `SAM_NONE` what its other arguments lead to is as it was.
 
 ghost use Rattle.std.specs.Prelude.{◌≡◌, length};
-ghost use Rattle.sam_c.specs.Calls.{Reports};
-ghost use Rattle.sam_c.specs.Hosts.{Freed};
+ghost use Rattle.sam_handles.specs.Calls.{Reports, Freed};
 ghost use Rattle.sam_c.specs.Terms.{TermChanged, TermFed, TermFinished, TermIdled, TermMade, TermNextRefusal, TermTaken};
 
-use crate::handle::{SamTerm, with_end};
-use crate::status::{
+use sam_endpoint::TermEndpoint;
+use sam_handles::handle::SamTerm;
+use sam_handles::status::{
     MADE, NO_HANDLE, NO_MEMORY, NONE, OK, refusal_status, term_finish_status, term_status,
 };
-use sam_endpoint::TermEndpoint;
+use sam_handles::with_end;
 use std::alloc::Global;
 
 /// Makes a terminal that knows no file. Errors, in this order: `SAM_MADE` if the handle is made already; `SAM_NO_MEMORY`. After an error

@@ -7,14 +7,13 @@
 //! call or before: `SAM_STREAM..`, `SAM_TERM_REFUSED..`. `SAM_NO_HANDLE` comes first; the order of the others is that of
 //! `TermEndpoint::put`.
 
-ghost use Rattle.std.specs.Prelude.{◌≡◌};
-ghost use Rattle.sam_c.specs.Status.{read_status};
-ghost use Rattle.sam_c.specs.Terms.{TermPut, TermPutText};
 ghost use Rattle.sam_term.specs.declared.event.UserEvent.TheVariants.{Check, Close, Cut, Dclick, Edit, Exit, Flush, GetSnarf, Load, Look, New, Open, OpenCmd, Paste, Scroll, Search, Select, Send, SetSnarf, Snarf, Typed, Version, View, Work, Write};
+ghost use Rattle.sam_c.specs.Terms.{TermPut, TermPutText};
 
-use crate::handle::{SamTerm, with_end};
-use crate::status::{NO_HANDLE, NO_MEMORY, NOT_TEXT, term_status};
-use sam_runes::{ReadFault, read_utf8};
+use sam_handles::handle::SamTerm;
+use sam_handles::status::{NO_HANDLE, read_status, term_status};
+use sam_handles::with_end;
+use sam_runes::read_utf8;
 use sam_term::UserEvent;
 use std::alloc::Global;
 
@@ -24,16 +23,6 @@ fn put(term: &mut SamTerm, event: UserEvent, alloc: Global) -> u32
     ensures { TermPut term.old.held.end event result term.new.held.end }
 {
     with_end!(term alloc mut end { term_status(end.put(event)) })
-}
-
-/// Returns the number of why a text is not read.
-pub(crate) fn read_status(why: ReadFault) -> u32
-    ensures { result ≡ read_status why }
-{
-    match why {
-        ReadFault::NotText => NOT_TEXT,
-        ReadFault::OutOfMemory => NO_MEMORY,
-    }
 }
 
 /// Types a text in the place of the dot: at most 512 runes, in UTF-8; a longer one is an event that is refused. After `SAM_NO_HANDLE`, and

@@ -2,37 +2,27 @@
 //! `SAM_NO_HANDLE` if the handle is empty; after that, and after `SAM_NONE`, what its other arguments lead to is as it was. Places count
 //! runes from the beginning of the text.
 
-ghost use Rattle.std.specs.Prelude.{◌≡◌, Some, drop, is_some, length, option_and_then, option_copied, option_map};
-ghost use Rattle.sam_c.specs.Calls.{Reports, ReportsCells, ReportsName, ReportsSome, ReportsText, written};
-ghost use Rattle.sam_c.specs.Terms.{dot_of, gap_from, known_of, open_of, rasp_of, shown_of};
-ghost use Rattle.sam_c.specs.Buffers.{countable};
+ghost use Rattle.std.specs.Prelude.{◌≡◌, Some, drop, is_some, length, option_and_then, option_map};
 ghost use Rattle.sam_endpoint.specs.Drawing.{Shows};
 ghost use Rattle.sam_endpoint.specs.TermEndpoints.{decided, fault_place, under_way};
 ghost use Rattle.sam_crossing.specs.World.{is_locked};
 ghost use Rattle.sam_rasp.specs.Rasp.{hole_within};
 ghost use Rattle.sam_term.specs.Sound.{unsent_length};
 ghost use Rattle.sam_term.specs.Term.{is_changed};
+ghost use Rattle.sam_handles.specs.Buffers.{countable};
+ghost use Rattle.sam_handles.specs.Calls.{Reports, ReportsCells, ReportsName, ReportsSome, ReportsText, written};
+ghost use Rattle.sam_handles.specs.Snapshots.{file_state, term_state, known_of, open_of};
+ghost use Rattle.sam_c.specs.Terms.{dot_of, gap_from, rasp_of, shown_of};
 
-use crate::handle::{SamTerm, with_end};
-use crate::status::{NO_HANDLE, NONE, OK};
-use crate::telling::{tell, tell_some, tell_two};
-use crate::utf8::{countable, runes_from, tell_name, tell_text};
-use sam_endpoint::{TermEndpoint, read_rasp};
+use sam_endpoint::read_rasp;
+use sam_handles::handle::SamTerm;
+use sam_handles::snapshots::{SamTermFile, SamTermState, file_of, known_file, state_of};
+use sam_handles::status::{NONE, OK};
+use sam_handles::telling::{tell, tell_some, tell_two};
+use sam_handles::utf8::{countable, runes_from, tell_name, tell_text};
+use sam_handles::with_end;
 use sam_rasp::Rasp;
-use sam_term::records::KnownFile;
 use std::alloc::Global;
-
-/// Returns what the terminal knows of a tag; `None` if it knows no file of it.
-pub(crate) fn known_file(end: &TermEndpoint, tag: u16) -> Option<&KnownFile>
-    ensures { option_copied result ≡ known_of end.now tag }
-{
-    let files = end.term().files();
-    if (tag as usize) < files.len() {
-        files[tag as usize].as_ref()
-    } else {
-        None
-    }
-}
 
 /// Hands out how many event calls were taken.
 #[unsafe(no_mangle)]
@@ -412,4 +402,27 @@ pub extern "C" fn sam_term_first_gap(
         };
         tell_some(found, gap)
     })
+}
+
+/// Hands out what a terminal holds, in one call.
+#[unsafe(no_mangle)]
+pub extern "C" fn sam_term_state(term: &mut SamTerm, state: &mut SamTermState, alloc: Global) -> u32
+    ensures told { Reports term.old.held.end result state.old state.new term_state }
+    ensures kept { term.new.held.end ≡ term.old.held.end }
+{
+    with_end!(term alloc end { *state = state_of(&end); OK })
+}
+
+/// Hands out what a terminal knows of a tag, in one call.
+#[unsafe(no_mangle)]
+pub extern "C" fn sam_term_file(
+    term: &mut SamTerm,
+    tag: u16,
+    file: &mut SamTermFile,
+    alloc: Global,
+) -> u32
+    ensures told { Reports term.old.held.end result file.old file.new (λ e. file_state e tag) }
+    ensures kept { term.new.held.end ≡ term.old.held.end }
+{
+    with_end!(term alloc end { *file = file_of(&end, tag); OK })
 }

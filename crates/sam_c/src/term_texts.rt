@@ -1,18 +1,19 @@
-//! What C reads of the text of an open file, in runes, bytes, code units and lines: include/sulgrevad.h says of each call what it hands out. None of
-//! them changes the terminal. Each returns `SAM_NO_HANDLE` if the handle is empty, and then `SAM_NONE` if the file is not open; after these
-//! what its other arguments lead to is as it was. Places count runes from the beginning of the text.
+//! What C reads of the text of an open file, in runes, bytes, code units and lines: include/sulgrevad.h says of each call what it hands
+//! out. None of them changes the terminal. Each returns `SAM_NO_HANDLE` if the handle is empty, and then `SAM_NONE` if the file is not
+//! open; after these what its other arguments lead to is as it was. Places count runes from the beginning of the text.
 
 ghost use Rattle.std.specs.Prelude.{◌≡◌, drop, option_and_then, option_map};
-ghost use Rattle.sam_c.specs.Calls.{ReportsSome, ReportsText, written};
-ghost use Rattle.sam_c.specs.Measures.{front_runes, line_after, line_before, place_after, sizes};
+ghost use Rattle.sam_handles.specs.Calls.{ReportsSome, ReportsText, written};
+ghost use Rattle.sam_handles.specs.Measures.{front_runes, line_after, line_before, place_after, sizes};
 ghost use Rattle.sam_c.specs.Terms.{rasp_of};
 
-use crate::handle::{SamTerm, with_end};
-use crate::measures::tell_front;
-use crate::members::Members;
-use crate::status::{NO_HANDLE, NONE};
-use crate::telling::{tell, tell_some, tell_two};
 use sam_endpoint::TermEndpoint;
+use sam_handles::handle::SamTerm;
+use sam_handles::measures::tell_front;
+use sam_handles::members::Members;
+use sam_handles::status::NONE;
+use sam_handles::telling::{tell, tell_some, tell_two};
+use sam_handles::with_end;
 use sam_rasp::Measure;
 use std::alloc::Global;
 
@@ -199,8 +200,8 @@ pub extern "C" fn sam_term_line_before(
     })
 }
 
-/// Hands out how many of the loaded runes of an open file from the place `start` to the place `end` end a line, and how many runes there are
-/// not loaded.
+/// Hands out how many of the loaded runes of an open file from the place `start` to the place `end` end a line, and how many runes there
+/// are not loaded.
 #[unsafe(no_mangle)]
 pub extern "C" fn sam_term_lines(
     term: &mut SamTerm,

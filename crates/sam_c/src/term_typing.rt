@@ -3,10 +3,10 @@
 ghost use Rattle.std.specs.Prelude.{◌≡◌};
 ghost use Rattle.sam_c.specs.Typing.{TermTypedText, TypesBytes, TypesPiece, TypesText, taken_of};
 
-use crate::handle::{SamTerm, with_end};
-use crate::status::{NO_HANDLE, NO_MEMORY, term_status};
-use crate::term_events::read_status;
 use sam_endpoint::{EndpointFault, TermEndpoint, TermStop};
+use sam_handles::handle::SamTerm;
+use sam_handles::status::{NO_MEMORY, read_status, term_status};
+use sam_handles::with_end;
 use sam_runes::{Runes, read_utf8, utf8_len};
 use sam_term::UserEvent;
 use std::alloc::Global;

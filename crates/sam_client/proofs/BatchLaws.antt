@@ -1,5 +1,5 @@
 -- Replacements that are made one after another.
-use Rattle.std.proofs.Common.{rules, ◌≡◌, ◌∙◌, ℕ, suc, ◌+◌, ◌<◌, List, [], ◌∷◌, length, take, drop, min, slice_index_or, true, false, Result, Ok, Err, is_err, refl, sym, ap, subst, arith}
+use Rattle.std.proofs.Common.{◌≡◌, ◌∙◌, ℕ, suc, ◌+◌, ◌<◌, List, [], ◌∷◌, length, take, drop, min, slice_index_or, true, false, Result, Ok, Err, is_err, refl, sym, ap, subst, arith}
 use Rattle.std.proofs.lemmas.List.{drop_min, take_min}
 use Rattle.sam_overlay.specs.declared.fault.ReplaceFault.{ReplaceFault}
 use Rattle.sam_client.specs.Batches.{MakesEach, count_in}

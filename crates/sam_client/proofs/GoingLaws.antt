@@ -20,7 +20,6 @@ use Rattle.sam_overlay.specs.Calls.{CanAct, IsBehind, IsFree, IsReady, PlainOver
 use Rattle.sam_overlay.specs.Outcomes.{NoneKept, cells_in}
 use Rattle.sam_overlay.specs.Requests.{put_limit}
 use Rattle.sam_overlay.specs.declared.fault.PutFault.{PutFault}
-use Rattle.sam_overlay.specs.declared.fault.PutFault.TheVariants as unput
 use Rattle.sam_overlay.specs.declared.ordered.OrderedOverlay.{OrderedOverlay}
 use Rattle.sam_overlay.specs.declared.request.Request.{Request}
 use Rattle.sam_overlay.specs.declared.shown_change.OverlayStep.{OverlayStep}
@@ -128,19 +127,6 @@ edit_not_free c n f ((same, not), others) =
           put_still c.ordered n.ordered f still
           (behind c.ordered f (put_limit c.ordered.queue f) refl
           (not (sym still.putting ∙ no) (subst (λ (e : PlainTermEndpoint). IsFree e f) still.end free)));
-    }
-
--- its text has no room for the next
-pub edit_too_long : (c n : Client) (f : ℕ) (why : PutFault) → put_fault why ≡ None → Does c (PutEdit f (Err why)) n → EditIdle f c n
-edit_too_long c n f (unput.Stopped why) is does = absurd cc
-edit_too_long c n f unput.CountFull is does = absurd cc
-edit_too_long c n f unput.OutOfMemory is does = absurd cc
-edit_too_long c n f unput.TooLong is ((l, waits, full, same), others) =
-    let still = still_overlay c n others same in record {
-      still = still;
-      put = λ no free.
-          put_still c.ordered n.ordered f still
-          (inr (inl (l, ap (cells_in (rasp_at c.ordered.overlay.end.term f)) waits, full)));
     }
 
 -- ## Requests

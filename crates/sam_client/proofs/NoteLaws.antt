@@ -1,5 +1,5 @@
 -- A note goes behind what acted: the step in front of it writes that, and nothing else.
-use Rattle.std.proofs.Common.{◌≡◌, ◌⊎◌, inl, inr, ◌↔◌, Bool, true, false, not, ℕ, ◌<◌, List, [], ◌∷◌, Some, None, Result, Ok, Err, refl, ap, arith}
+use Rattle.std.proofs.Common.{◌≡◌, inl, inr, ◌↔◌, Bool, true, false, not, ◌<◌, List, [], ◌∷◌, None, Ok, Err, refl, ap, arith}
 use Rattle.std.specs.Prelude.{IsTrue, length, slice_get}
 use Rattle.sam_mesg.specs.declared.tmesg.Tmesg.{Tmesg}
 use Rattle.sam_mesg.specs.declared.hmesg.HFrame.{HFrame}

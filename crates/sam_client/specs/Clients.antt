@@ -1,5 +1,5 @@
 -- A client, and what it does with its two parts: a terminal's end with edits and requests that wait, and its line to the host.
-use Rattle.std.specs.Prelude.{◌≡◌, ◌≢◌, ◌⊎◌, ◌↔◌, ℕ, ◌-◌, ◌^◌, ◌<◌, ◌≤◌, List, [], ◌∷◌, drop, length, slice_get, Bool, true, false, if◌then◌else◌, Option, Some, None, is_some, IfSome, Result, Ok, Err, IfOk, OnErr, OnOk}
+use Rattle.std.specs.Prelude.{◌≡◌, ◌≢◌, ◌⊎◌, ◌↔◌, ℕ, ◌-◌, ◌^◌, ◌<◌, ◌≤◌, List, [], ◌∷◌, drop, length, slice_get, Bool, true, false, if◌then◌else◌, Option, Some, None, is_some, IfSome, Result, Ok, Err, IfOk, OnErr}
 use Rattle.sam_runes.specs.Checks.{first_of_checks}
 use Rattle.sam_pending.specs.Cells.{IsTakenBack}
 use Rattle.sam_pending.specs.declared.fault.PendingFault.{PendingFault}
@@ -75,7 +75,8 @@ Edits o f p q s (Err why) n =
 pub record Asks (o : OrderedOverlay) (event : UserEvent) (answer : Result Asked AskFault) (n : OrderedOverlay) : Type 0 where
   pub asked : IfOk answer (λ x. IsAsked o event x n)
   pub waiting : (answer ≡ Err unasked.Waiting) ↔ (is_some o.overlay.putting ≡ true)
-  pub many : (answer ≡ Err unasked.TooMany) ↔ ((o.overlay.putting ≡ None) × (shared_with o event ≡ None) × (most_waiting_requests ≤ length o.queue))
+  pub many : (answer ≡ Err unasked.TooMany)
+      ↔ ((o.overlay.putting ≡ None) × (shared_with o event ≡ None) × (most_waiting_requests ≤ length o.queue))
   pub full : (answer ≡ Err unasked.CountFull)
       ↔ ((o.overlay.putting ≡ None) × (shared_with o event ≡ None) × (length o.queue < most_waiting_requests)
       × (2 ^ 32 - 1 ≤ closing_group o))

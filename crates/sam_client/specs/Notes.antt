@@ -1,5 +1,5 @@
 -- A note of the terminal's program to the host's.
-use Rattle.std.specs.Prelude.{◌≡◌, ◌⊎◌, ℕ, ◌<◌, List, [], length, Option, None, Result, Ok, Err}
+use Rattle.std.specs.Prelude.{◌≡◌, ◌⊎◌, ℕ, ◌<◌, List, [], length, None, Result, Ok, Err}
 use Rattle.sam_endpoint.specs.declared.fault.EndpointFault.{EndpointFault}
 use Rattle.sam_endpoint.specs.declared.fault.EndpointFault.TheVariants.{Unfinished}
 use Rattle.sam_endpoint.specs.declared.fault.TermStop.{TermStop}
@@ -31,7 +31,9 @@ WritesActed c (Err why) n = HasActed c.ordered.overlay.end × (why ≡ Unfinishe
 
 -- all that the end composed went into the line, or there was nothing; or the line didn't take it
 abbrev pub SendsAll : Client → ℕ → Result (Unit {0}) SendFault → Client → Type 0
-SendsAll c now (Ok done) n = ((c.ordered.overlay.end.pending_bytes ≡ []) × (n ≡ c)) ⊎ Does c (Send c.ordered.overlay.end.pending_bytes now (Ok tt)) n
+SendsAll c now (Ok done) n =
+    ((c.ordered.overlay.end.pending_bytes ≡ []) × (n ≡ c))
+    ⊎ Does c (Send c.ordered.overlay.end.pending_bytes now (Ok tt)) n
 SendsAll c now (Err why) n = Does c (Send c.ordered.overlay.end.pending_bytes now (Err why)) n
 
 -- behind that, the line took the note, or didn't

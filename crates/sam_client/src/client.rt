@@ -144,8 +144,8 @@ impl Client {
     // ---- What the user does
 
     /// Puts `runes` in the place of what is shown of a file from place `p` to place `q`, behind all requests that wait, as
-    /// `OrderedOverlay::replace` does. It is shown at once, whatever is locked, and goes to the host as the client goes on. Errors are those
-    /// of that call, in its order; after each all is as before.
+    /// `OrderedOverlay::replace` does. It is shown at once, whatever is locked, and goes to the host as the client goes on. Errors are
+    /// those of that call, in its order; after each all is as before.
     pub fn replace(&mut self, tag: u16, p: u32, q: u32, runes: &[char]) -> Result<(), ReplaceFault>
         ensures { Does self.old (Replace tag p q runes.now result) self.new }
     {
@@ -195,9 +195,9 @@ impl Client {
         self.ordered.ask(event)
     }
 
-    /// Takes back the next runes that wait over a file for which its text has no room, as `OrderedOverlay::drop_next` does, and returns them
-    /// and where they stood. `None` if there are none, or no edit of the file can act at once. So a program asks where the client is idle
-    /// and edits wait over a free file. The only error is `OutOfMemory`, after which all is as before.
+    /// Takes back the next runes that wait over a file for which its text has no room, as `OrderedOverlay::drop_next` does, and returns
+    /// them and where they stood. `None` if there are none, or no edit of the file can act at once. So a program asks where the client is
+    /// idle and edits wait over a free file. The only error is `OutOfMemory`, after which all is as before.
     pub fn drop_next(&mut self, tag: u16) -> Result<Option<Dropped>, PendingFault>
         ensures { Does self.old (TakeBack tag result) self.new }
     {

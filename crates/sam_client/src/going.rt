@@ -284,8 +284,8 @@ impl Client {
 
     /// Goes on until there is something to tell: bytes of the host go from the line to the terminal's end, its steps are made, requests act
     /// and edits of free files are put in their one order, and what the end composed goes into the line. Call it after each call that
-    /// brought something, until it answers `Idle`. It makes `MOST_MOVES` moves at most that do something, and answers `Busy` just if it made
-    /// so many and nothing is to be told.
+    /// brought something, until it answers `Idle`. It makes `MOST_MOVES` moves at most that do something, and answers `Busy` just if it
+    /// made so many and nothing is to be told.
     ///
     /// Errors: `Stopped` if the terminal's end has stopped; `CountFull` if a count of bytes or events would pass 2^64-1; `OutOfMemory`.
     /// Nothing is lost by them: the next call goes on.

@@ -33,7 +33,7 @@ unfoldable pub use Rattle.sam_term.specs.Term.{all_wanted, flushed, made_by_cut,
 pub use Rattle.sam_term.specs.Windows.{blank_known, blank_window, window_in}
 pub use Rattle.sam_term.specs.declared.event.UserEvent.{UserEvent}
 pub use Rattle.sam_term.specs.declared.fault.TermFault.{TermFault}
-pub use Rattle.sam_term.specs.declared.lock.Lock.{Lock, Lock as TakenLock}
+pub use Rattle.sam_term.specs.declared.lock.Lock.{Lock}
 pub use Rattle.sam_term.specs.declared.lock.Lock.TheVariants.{CommandLock, FileLock, NoLock}
 pub use Rattle.sam_term.specs.declared.records.KnownFile.{KnownFile}
 pub use Rattle.sam_term.specs.declared.records.Unsent.{Unsent}

@@ -28,17 +28,6 @@ answers-append h (m ∷ ms) ns a b e f =
     let t = answered h m ms a e in
     grind (arith, answered, append_assoc, (answers-append t.first.0 ms ns t.rest b t.later))
 
--- ## The host takes the first message
-
--- it doesn't refuse it, and what it answers joins what is down
-pub record HostTaken (h : PlainHost) (views : ℕ → Lens) (m : Tmesg) (line : List Tmesg) (down : List Hmesg) : Type 0 where
-  pub reply : Reply
-  pub answers_it : reply_of h m ≡ Some reply
-  pub kept : AllComeToSync reply.0 views line (down ++ reply.1)
-
-pub host_takes : (h : PlainHost) (views : ℕ → Lens) (m : Tmesg) (line : List Tmesg) (down : List Hmesg) → AllComeToSync h views (m ∷ line) down → HostTaken h views m line down
-host_takes h views m line down k = grind (arith, append_assoc)
-
 -- ## The terminal takes the first frame
 
 -- no lens refuses it

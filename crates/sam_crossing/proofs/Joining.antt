@@ -1,11 +1,11 @@
 -- A host with more files replies as without them, but for their names and its next tag.
-use Rattle.sam_host.proofs.Common.{◌≡◌, refl, sym, ap, ◌∙◌, subst, ℕ, zero, suc, ◌+◌, ◌-◌, ◌<◌, ◌≤◌, Bool, true, false, not, ◌&&◌, ◌||◌, ◌==◌, if◌then◌else◌, flat_map, reverse, List, [], ◌∷◌, ◌++◌, length, length-append, Option, Some, None, IfSome, arith, ltb-false, unwrap_or, option_map, option_and_then, either, first_of_checks, none_holds, max_runes, ends_line, as_lines, last_line, part, searched, Range, Slots, slot, put_slot, PlainFile, PlainFiles, PlainOutcome, blank_file, file_at, has_file, has_room, may_look, put_file, typed_file, without_file, after_print, put_outcome, committed, meaning, work_file, work_on, line_outcome, Edit, Tmesg, Tversion, Tstartcmdfile, Tcheck, Trequest, Torigin, Tstartfile, Tworkfile, Ttype, Tcut, Tpaste, Tsnarf, Tstartnewfile, Twrite, Tclose, Tlook, Tsearch, Tsend, Tdclick, Tstartsnarf, Tsetsnarf, Tack, Texit, Hmesg, Hexit, Hunlock, Hclose, Hdelname, Hsnarflen, Hsetpat, Hunlockfile, PlainHost, Reply, host_checks, reply_to, reply_line, reply_found, reply_type, reply_send, reply_look, line_to, with_file, with_files, unknown, not_opened, past_end, no_range, no_room, when, grown, printed, told_edit, told_edits, told_outcome, told_dirty}
+use Rattle.sam_host.proofs.Common.{◌≡◌, refl, ap, ◌∙◌, subst, ℕ, zero, suc, ◌+◌, ◌-◌, ◌<◌, ◌≤◌, Bool, true, false, not, ◌&&◌, ◌||◌, ◌==◌, if◌then◌else◌, flat_map, reverse, List, [], ◌∷◌, ◌++◌, length, length-append, Option, Some, None, IfSome, arith, ltb-false, unwrap_or, option_map, option_and_then, either, first_of_checks, none_holds, max_runes, ends_line, as_lines, last_line, part, searched, Range, Slots, slot, put_slot, PlainFile, PlainFiles, PlainOutcome, blank_file, file_at, has_file, has_room, may_look, put_file, typed_file, without_file, after_print, put_outcome, committed, meaning, work_on, line_outcome, Edit, Tmesg, Tversion, Tstartcmdfile, Tcheck, Trequest, Torigin, Tstartfile, Tworkfile, Ttype, Tcut, Tpaste, Tsnarf, Tstartnewfile, Twrite, Tclose, Tlook, Tsearch, Tsend, Tdclick, Tstartsnarf, Tsetsnarf, Tack, Texit, Hmesg, Hexit, Hunlock, Hclose, Hdelname, Hsnarflen, Hsetpat, Hunlockfile, PlainHost, Reply, host_checks, reply_to, reply_line, reply_found, reply_type, reply_send, reply_look, line_to, with_file, with_files, unknown, not_opened, past_end, no_range, no_room, grown, printed, told_edit, told_outcome}
 use Rattle.std.specs.Prelude.{is_some}
 use Rattle.std.proofs.lemmas.Bool.{not-false}
 use Rattle.sam_runes.specs.Checks.{Checks}
 use Rattle.sam_host.specs.declared.fault.HostFault.{HostFault}
 use Rattle.sam_host.specs.Host.{is_command, reply_outcome}
-use Rattle.sam_text.specs.Files.{AreFit, file_after}
+use Rattle.sam_text.specs.Files.{file_after}
 use Rattle.sam_text.proofs.FitLaws.{fit-put, fit-typed, fit-print, fit-meaning}
 use Rattle.sam_runes.specs.Slots.{free_slot}
 use Rattle.sam_runes.proofs.SlotLaws.{slot_given, length-put_slot}

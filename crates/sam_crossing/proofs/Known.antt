@@ -1,11 +1,11 @@
 -- A file whose name was announced: the terminal knows it once it has taken what is under way.
-use Rattle.sam_crossing.proofs.Common.{◌≡◌, ℕ, zero, suc, ◌+◌, ◌-◌, ◌<◌, ◌≤◌, Bool, true, false, not, ◌&&◌, ◌||◌, ◌==◌, if◌then◌else◌, List, [], ◌∷◌, ◌++◌, length, flat_map, reverse, drop, Option, Some, None, IfSome, is_some, refl, sym, ap, ◌∙◌, subst, arith, same_Some, true≢false, unwrap_or, option_map, eqb-true, nat_lt, nat_le, Slots, slot, put_slot, slot-put_same, slot-put_other, slot-free_other, slot_given, slot-map, PlainFile, PlainFiles, PlainOutcome, blank_file, file_at, has_file, has_room, put_file, put_outcome, file_after, committed, after_print, is_printed, printed_file, announced_file, announce_all, new_file, typed_file, cut_file, pasted_file, command_name, searched_for, may_look, Range, part, is_empty, max_runes, min, most_in_message, as_lines, ends_line, last_line, line_start, searched, first_of_checks, Tmesg, Tversion, Tstartcmdfile, Tcheck, Trequest, Torigin, Tstartfile, Tworkfile, Ttype, Tcut, Tpaste, Tsnarf, Tstartnewfile, Twrite, Tclose, Tlook, Tsearch, Tsend, Tdclick, Tstartsnarf, Tsetsnarf, Tack, Texit, Hmesg, Hack, Hbindname, Hcheck, Hclean, Hclose, Hcurrent, Hcut, Hdata, Hdelname, Hdirty, Hexit, Hgrow, Hmovname, Hnewname, Horigin, Hsetdot, Hsetpat, Hunlock, Hunlockfile, Hversion, PlainHost, Reply, Close, counted, host_checks, reply_to, reply_line, reply_found, with_file, with_files, no_tag_left, Action, Join, Lens, lens, Slot, Unknown, Known, Open, move, run, closes, is_close, action, only, at_file, IsSynced, file_in, reply_of, answers, InOrder, view, PlainTerminal}
+use Rattle.sam_crossing.proofs.Common.{◌≡◌, ℕ, suc, ◌+◌, ◌-◌, Bool, true, false, not, ◌&&◌, ◌||◌, ◌==◌, if◌then◌else◌, List, [], ◌∷◌, ◌++◌, length, flat_map, reverse, drop, Option, Some, None, is_some, refl, sym, ap, ◌∙◌, subst, arith, same_Some, true≢false, unwrap_or, option_map, eqb-true, nat_lt, nat_le, Slots, slot, slot-put_same, slot-put_other, slot-free_other, slot_given, slot-map, PlainFile, PlainFiles, PlainOutcome, blank_file, file_at, has_file, has_room, put_file, put_outcome, file_after, committed, after_print, is_printed, printed_file, announced_file, announce_all, new_file, typed_file, cut_file, pasted_file, command_name, searched_for, may_look, Range, part, is_empty, max_runes, min, most_in_message, as_lines, ends_line, last_line, searched, first_of_checks, Tmesg, Tversion, Tstartcmdfile, Trequest, Tstartfile, Tworkfile, Ttype, Tcut, Tpaste, Tstartnewfile, Twrite, Tclose, Tlook, Tsearch, Tsend, Tdclick, Hmesg, Hack, Hbindname, Hcheck, Hclean, Hclose, Hcurrent, Hcut, Hdata, Hdelname, Hdirty, Hexit, Hgrow, Hmovname, Hnewname, Hsetdot, Hsetpat, Hunlock, Hunlockfile, Hversion, PlainHost, Reply, Close, counted, host_checks, reply_to, reply_line, reply_found, with_file, with_files, no_tag_left, Action, Join, Lens, lens, Unknown, Known, Open, move, run, closes, is_close, action, only, at_file, IsSynced, file_in, reply_of, answers, InOrder, view, PlainTerminal}
 unfoldable use Rattle.sam_crossing.proofs.Common.{grown, printed, told_edit, told_length, told_names, told_outcome, when, when_given}
 use Rattle.sam_runes.specs.Texts.{all_tags, common_version, word_at}
 use Rattle.sam_runes.specs.declared.edit.Edit.{Edit}
 use Rattle.sam_text.specs.Files.{opened_file, written_file, without_file}
 use Rattle.sam_text.specs.Meaning.{meaning}
-use Rattle.sam_host.specs.Host.{line_to, reply_outcome, told_dirty, told_paste, told_found, told_at}
+use Rattle.sam_host.specs.Host.{told_dirty, told_paste, told_found, told_at}
 use Rattle.sam_host.specs.declared.fault.HostFault.{HostFault}
 use Rattle.sam_host.proofs.EachFrame.{replies_opened}
 use Rattle.sam_crossing.specs.Fold.{replied}
@@ -13,7 +13,7 @@ use Rattle.sam_crossing.specs.Lens.{Free_file, Leave, Needs_known}
 use Rattle.sam_crossing.proofs.Folds.{answered}
 use Rattle.sam_crossing.proofs.Runs.{stepped}
 use Rattle.sam_crossing.proofs.Guards.{at_file-append}
-use Rattle.sam_crossing.proofs.MoreFiles.{Split, split}
+use Rattle.sam_crossing.proofs.MoreFiles.{split}
 
 -- ## Lenses that don't know the file
 

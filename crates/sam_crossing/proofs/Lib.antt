@@ -32,6 +32,8 @@ pub mod Streaming
 pub mod Starting
 pub mod Joining
 pub mod MoreFiles
+pub mod DirtyFiles
+pub mod DirtyReplies
 pub mod Dirt
 pub mod Known
 pub mod Marking

@@ -1,9 +1,9 @@
 -- Where the host marks a file as dirty, all that is under way leads where it led.
-use Rattle.sam_crossing.proofs.Common.{◌≡◌, ℕ, zero, suc, Bool, true, false, not, ◌&&◌, ◌||◌, ◌==◌, List, [], ◌∷◌, ◌++◌, length, Option, Some, None, option_map, append-nil, is_some, inl, inr, refl, sym, ap, ◌∙◌, subst, arith, same_Some, true≢false, append_assoc, eqb-true, eq-eqb, nat_lt, unwrap_or, Slots, slot, put_slot, slot_given, length-put_slot, ◌<◌, PlainFile, PlainFiles, blank_file, file_at, has_file, put_file, first_of_checks, Tmesg, Hmesg, Hdirty, PlainHost, Reply, with_file, PlainTerminal, unsent_message, Action, Needs_known, Lens, lens, HFile, move, run, frees, closes, is_freeing, is_crossing, is_close, IsGuarded, ComesToSync, action, only, at_file, is_unlock, is_version, unlocks_command, VersionsGuarded, file_of_slot, file_in, IsOpened, IsCommandFile, HasFiles, IsSteady, OpenAnnounced, answers, AllComeToSync, InOrder, view, views}
+use Rattle.sam_crossing.proofs.Common.{◌≡◌, ℕ, zero, suc, Bool, true, false, not, ◌&&◌, ◌||◌, ◌==◌, List, [], ◌∷◌, ◌++◌, length, Option, Some, None, option_map, append-nil, is_some, inl, inr, refl, sym, ap, ◌∙◌, subst, arith, same_Some, true≢false, append_assoc, eqb-true, eq-eqb, nat_lt, unwrap_or, Slots, slot, put_slot, slot_given, length-put_slot, ◌<◌, PlainFile, PlainFiles, blank_file, file_at, has_file, Tmesg, Hmesg, Hdirty, PlainHost, Reply, with_file, PlainTerminal, unsent_message, Action, Needs_known, Lens, HFile, move, run, frees, closes, is_freeing, is_crossing, is_close, IsGuarded, ComesToSync, action, only, at_file, is_unlock, is_version, unlocks_command, VersionsGuarded, file_of_slot, file_in, IsOpened, IsCommandFile, IsSteady, OpenAnnounced, answers, AllComeToSync, InOrder, views}
 unfoldable use Rattle.sam_crossing.proofs.Common.{when}
 use Rattle.sam_text.specs.Files.{dirty_file, IsFit}
 use Rattle.sam_host.specs.Host.{told_dirty}
-use Rattle.sam_host.specs.Marking.{mark_checks, marked}
+use Rattle.sam_host.specs.Marking.{marked}
 use Rattle.sam_crossing.specs.Lens.{moved_then}
 use Rattle.sam_crossing.specs.Joining.{HasGiven, more_files, with_more}
 use Rattle.sam_crossing.proofs.Joining.{file-more, files-put, slot-more}
@@ -11,7 +11,9 @@ use Rattle.sam_text.proofs.FitLaws.{fit-put}
 use Rattle.sam_crossing.proofs.Runs.{stepped, run-append_some}
 use Rattle.sam_crossing.proofs.Guards.{at_file-append}
 use Rattle.sam_crossing.proofs.MoreFiles.{split}
-use Rattle.sam_crossing.proofs.Dirt.{Answers, clean-same, or-true, apart-first, first-apart, apart-more, dirtied, dirty_slots, with_dirt, IsDirt, slot-dirt, length-dirt, file-dirt, Fewer, fewer-same, fewer-append, answers-dirt}
+use Rattle.sam_crossing.proofs.DirtyFiles.{clean-same, or-true, dirtied, dirty_slots, with_dirt, IsDirt, slot-dirt, length-dirt, file-dirt, Fewer, fewer-same, fewer-append}
+use Rattle.sam_crossing.proofs.DirtyReplies.{apart-first, first-apart, apart-more}
+use Rattle.sam_crossing.proofs.Dirt.{Answers, answers-dirt}
 use Rattle.sam_crossing.proofs.Known.{IsShown, is_unknown, known_then}
 
 abbrev pub only_at : ℕ → ℕ → Bool

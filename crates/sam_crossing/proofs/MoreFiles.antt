@@ -1,8 +1,8 @@
 -- A world that is in order is so with more files at the host, and each step keeps it so.
-use Rattle.sam_crossing.proofs.Common.{◌≡◌, ℕ, zero, suc, ◌+◌, ◌<◌, ◌≤◌, Bool, true, false, not, ◌&&◌, ◌||◌, ◌==◌, nat_lt, nat_le, if◌then◌else◌, List, [], ◌∷◌, ◌++◌, length, Option, Some, None, IfSome, ◌⊎◌, inl, inr, refl, sym, ap, ◌∙◌, subst, true≢false, arith, same_Some, append-nil, append_assoc, length-append, unwrap_or, max_runes, Slots, slot, put_slot, free_slot, put_slot-push, length-put_slot, length-free_slot, length-map_slots, first_of_checks, PlainFile, PlainFiles, PlainOutcome, AreFit, blank_file, command_name, file_at, put_file, put_outcome, after_print, announce_all, announced_file, new_file, is_printed, printed_file, committed, common_version, with_files, Tmesg, Tversion, Tstartnewfile, Hmesg, Hack, Hunlock, Hversion, Hnewname, Hbindname, Hcurrent, PlainHost, Reply, HostFault, counted, given_slots, new_host, host_checks, reply_to, reply_of, reply_fits, answers, told_names, printed, PlainTerminal, unsent_message, Action, Lens, lens, HFile, Absent, Hidden, Named, Opened, Gone, IsOpened, IsCommandFile, Unknown, Known, Open, Fits_slot, IsSynced, ComesToSync, move, run, closes, action, at_file, file_of_slot, file_in, HasFiles, OpenAnnounced, IsSteady, InOrder, views}
+use Rattle.sam_crossing.proofs.Common.{◌≡◌, ℕ, zero, suc, ◌<◌, ◌≤◌, Bool, true, false, not, ◌&&◌, ◌||◌, nat_lt, nat_le, if◌then◌else◌, List, [], ◌∷◌, ◌++◌, length, Option, Some, None, IfSome, ◌⊎◌, inl, inr, refl, sym, ap, ◌∙◌, subst, true≢false, arith, same_Some, append-nil, append_assoc, length-append, unwrap_or, max_runes, Slots, slot, put_slot, free_slot, put_slot-push, length-free_slot, length-map_slots, first_of_checks, PlainFile, PlainFiles, PlainOutcome, blank_file, command_name, file_at, put_file, put_outcome, after_print, announce_all, announced_file, new_file, is_printed, printed_file, common_version, with_files, Tmesg, Tversion, Tstartnewfile, Hmesg, Hack, Hunlock, Hversion, Hnewname, Hbindname, Hcurrent, PlainHost, Reply, HostFault, counted, given_slots, new_host, host_checks, reply_to, reply_of, reply_fits, answers, told_names, printed, PlainTerminal, unsent_message, Action, Lens, lens, HFile, Absent, Gone, IsOpened, IsCommandFile, Unknown, Known, Open, Fits_slot, IsSynced, ComesToSync, move, run, at_file, file_in, OpenAnnounced, IsSteady, InOrder, views}
 unfoldable use Rattle.sam_crossing.proofs.Common.{reply_version, reply_startnewfile}
 use Rattle.std.specs.Prelude.{drop}
-use Rattle.sam_runes.specs.Texts.{all_tags, most_in_name}
+use Rattle.sam_runes.specs.Texts.{all_tags}
 use Rattle.sam_text.specs.Files.{IsFit, work_without, without_file}
 use Rattle.sam_text.specs.Meaning.{meaning}
 use Rattle.sam_text.proofs.FitLaws.{fit-put}
@@ -16,7 +16,7 @@ use Rattle.sam_crossing.proofs.Lenses.{command_of, frees_command, is_free_comman
 use Rattle.sam_crossing.proofs.Runs.{Stepped, stepped, no_unlock}
 use Rattle.sam_crossing.proofs.Guards.{at_file-append}
 use Rattle.sam_crossing.proofs.HostFiles.{not_given}
-use Rattle.sam_crossing.proofs.Folds.{Answered, answered}
+use Rattle.sam_crossing.proofs.Folds.{answered}
 use Rattle.sam_crossing.proofs.Ordered.{HostGoes, host_goes}
 use Rattle.sam_crossing.proofs.Starting.{IsShut, given_shut, shut_fits, shut_announced}
 use Rattle.sam_crossing.proofs.Joining.{slot-more, deaf_replies_alike, more_pass}

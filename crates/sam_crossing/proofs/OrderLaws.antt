@@ -1,5 +1,5 @@
 -- Every run keeps both sides in order; so neither refuses the other, and they agree wherever nothing is under way.
-use Rattle.sam_crossing.proofs.Common.{◌≡◌, ℕ, ◌+◌, ◌≤◌, Bool, true, false, not, is_some, ◌&&◌, ◌==◌, nat_le, if◌then◌else◌, refl, sym, ap, ◌∙◌, subst, same_Some, Result, List, [], ◌∷◌, ◌++◌, length, Option, Some, None, Ok, eqb-true, arith, length-append, unwrap_or, map-append, most_count, max_runes, first_of_checks, PlainHost, given_slots, starts_sound, new_terminal, Reply, answer, stamped, HostFault, window_at, PlainTerminal, Made, flushed, frame_outcome, frame_checks, known_at, put_window, blank_window, TermFault, UserEvent, Tmesg, Hmesg}
+use Rattle.sam_crossing.proofs.Common.{◌≡◌, ℕ, ◌+◌, ◌≤◌, Bool, true, false, not, is_some, ◌&&◌, ◌==◌, nat_le, if◌then◌else◌, refl, sym, ap, ◌∙◌, subst, same_Some, Result, List, [], ◌∷◌, ◌++◌, length, Some, None, Ok, eqb-true, arith, length-append, unwrap_or, map-append, most_count, max_runes, first_of_checks, PlainHost, given_slots, starts_sound, new_terminal, Reply, answer, stamped, HostFault, window_at, PlainTerminal, Made, flushed, frame_outcome, frame_checks, known_at, put_window, blank_window, TermFault, UserEvent, Tmesg, Hmesg}
 use Rattle.std.proofs.Common.{Err}
 use Rattle.sam_term.specs.Term.{act_of, flush_of, take_of}
 use Rattle.sam_term.specs.declared.event.Acted.{Acted}

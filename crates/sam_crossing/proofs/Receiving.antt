@@ -1,5 +1,5 @@
 -- The terminal takes each frame that comes, and both sides stay in order.
-use Rattle.sam_crossing.proofs.Common.{◌≡◌, ℕ, ◌+◌, ◌≤◌, Bool, true, false, List, ◌∷◌, ◌++◌, length, Option, Some, None, refl, subst, arith, length-append, length-drop, length-take-le, ltb-false, length-map, Checks, first_of_checks, slot-free_same, slot-free_other, slot-map, PartialText, load_cells, Tmesg, Hmesg, Hcheck, Hunlockfile, Hack, PlainHost, PlainTerminal, window_at, unsent_message, frame_checks, frame_outcome, took_bindname, took_data, took_grow, took_growdata, took_cut, took_unlockfile, took_close, took_exit, Unsent, TermFault, Lens, Action, move, is_crossing, ComesToSync, HFile, OpenAt, Anything, action, only, at_file, view, effect, Moves, AreTidy, IsHeldBack, views, InOrder}
+use Rattle.sam_crossing.proofs.Common.{◌≡◌, ℕ, ◌+◌, ◌≤◌, Bool, false, List, ◌∷◌, ◌++◌, length, Option, Some, None, refl, subst, arith, length-append, length-drop, length-take-le, ltb-false, length-map, Checks, first_of_checks, slot-free_same, slot-free_other, slot-map, PartialText, load_cells, Tmesg, Hmesg, Hcheck, Hunlockfile, Hack, PlainHost, PlainTerminal, window_at, unsent_message, frame_checks, frame_outcome, took_bindname, took_data, took_grow, took_growdata, took_cut, took_unlockfile, took_close, took_exit, Unsent, TermFault, Lens, Action, move, is_crossing, ComesToSync, HFile, OpenAt, Anything, action, at_file, view, effect, Moves, AreTidy, IsHeldBack, views, InOrder}
 use Rattle.sam_runes.proofs.CheckLaws.{none_holds}
 use Rattle.sam_term.specs.Term.{past_end}
 use Rattle.sam_crossing.proofs.Runs.{first_is_quiet}
@@ -19,9 +19,6 @@ quiet_frame a s v d n file k o = grind (arith, first_is_quiet)
 -- and leaves it
 left_open : (a : Action) (s : List Action) (v v2 : Lens) (d : Bool) (n : ℕ) (file : HFile) → ComesToSync (a ∷ s) v d n file → OpenAt Anything v → move a v ≡ Some v2 → OpenAt Anything v2
 left_open a s v v2 d n file k o m = grind (arith, first_is_quiet)
-
-elsewhere : (b : Bool) (a : Action) → is_crossing a ≡ true → is_crossing (only b a) ≡ false → b ≡ false
-elsewhere b a e u = grind arith
 
 unsent_stays : (t : PlainTerminal) (m : Hmesg) (u : Unsent) → t.unsent ≡ Some u → is_crossing (action u.file m) ≡ false → (effect t m).unsent ≡ Some u
 unfolding took_bindname took_data took_grow took_growdata took_cut took_unlockfile took_close took_exit

@@ -47,8 +47,6 @@ same_change m e g v = grind arith
 pub open_is : (P : List (Option ℕ) → Type 0) (v : Lens) → OpenAt P v → IsOpen v
 open_is P v e = grind arith
 
-ruleset opening = (open_is)
-
 -- the file that a message locks is open, since it rests on that
 opens_for : (m : Tmesg) (v : ℕ → Lens) → CanCompose m v → LockOpens (lock_of m) v
 opens_for m v e = grind (arith, open_is)

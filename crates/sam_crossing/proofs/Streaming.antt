@@ -1,5 +1,5 @@
 -- Both sides have one version wherever the command lock is free, and it is that of the place of the next message.
-use Rattle.sam_crossing.proofs.Common.{◌≡◌, ℕ, true, false, List, [], ◌∷◌, ◌++◌, Option, Some, None, ◌⊎◌, arith, or_parts, same_Some, Unsent, first_of_checks, Hmesg, PlainHost, Reply, host_checks, reply_to, reply_version, PlainTerminal, unsent_message, at_file, is_unlock, unlocks_command, view, answers, InOrder, Tmesg, reply_stands}
+use Rattle.sam_crossing.proofs.Common.{◌≡◌, ℕ, true, false, List, [], ◌∷◌, ◌++◌, Option, Some, None, ◌⊎◌, arith, same_Some, Unsent, first_of_checks, Hmesg, PlainHost, Reply, host_checks, reply_to, reply_version, PlainTerminal, unsent_message, at_file, unlocks_command, view, answers, InOrder, Tmesg, reply_stands}
 use Rattle.sam_crossing.proofs.Runs.{no_unlock, same_version}
 use Rattle.sam_crossing.proofs.Versions.{unlocks-append, unlocks_behind, unlock_frames, no_changes}
 use Rattle.sam_crossing.proofs.Folds.{answered}
@@ -13,10 +13,6 @@ use Rattle.sam_crossing.proofs.Composing.{not_done_ahead}
 version_reply : (h : PlainHost) (m : Tmesg) → first_of_checks (host_checks h m) ≡ None → ((reply_to h m).0.version ≡ h.version) ⊎ (unlocks_command (reply_to h m).1 ≡ true)
 unfolding reply_version
 version_reply h m e = grind (arith, unlocks_behind, reply_stands)
-
-behind_none : (a b : List Hmesg) → unlocks_command (a ++ b) ≡ false → unlocks_command b ≡ false
-behind_none [] b e = e
-behind_none (m ∷ a) b e = behind_none a b (or_parts (is_unlock m) (unlocks_command (a ++ b)) e).1
 
 answers_version : (ms : List Tmesg) (h : PlainHost) (a : Reply) → answers h ms ≡ Some a → unlocks_command a.1 ≡ false → a.0.version ≡ h.version
 answers_version [] h a e u = grind (arith, same_Some)
@@ -53,9 +49,6 @@ one_version h t up down o c =
 pub still_done : (ms : List Tmesg) (h : PlainHost) (r : Reply) → answers h ms ≡ Some r → h.is_done ≡ true → r.0.is_done ≡ true
 still_done [] h r e d = grind arith
 still_done (m ∷ ms) h r e d = grind (arith, (still_done ms))
-
-running : (ms : List Tmesg) (h : PlainHost) (r : Reply) → answers h ms ≡ Some r → r.0.is_done ≡ false → h.is_done ≡ false
-running ms h r e d = grind (arith, still_done)
 
 folded_version : (ms : List Tmesg) (h : PlainHost) (r : Reply) → answers h ms ≡ Some r → r.0.is_done ≡ false → r.0.version ≡ version_behind h.version ms
 folded_version [] h r e d = grind arith

@@ -35,8 +35,9 @@
 //!    proofs/OrderLaws, RunLaws: the laws of every step and run.
 //! 10. specs/Joining, proofs/Joining, MoreFiles: a host to which files were added answers every message as before, but for those whose
 //!    answers tell which files there are (`hears`). So all is in order however many files join (`IsInOrder`).
-//! 11. proofs/Dirt, Known, Marking: a host that marks a file as dirty answers every message as before, but that it tells of fewer files
-//!    that they become dirty; and the terminal knows each announced file once it has taken what is under way. So a mark keeps all in order.
+//! 11. proofs/DirtyFiles, DirtyReplies, Dirt, Known, Marking: a host that marks a file as dirty answers every message as before, but that
+//!    it tells of fewer files that they become dirty; and the terminal knows each announced file once it has taken what is under way. So a
+//!    mark keeps all in order.
 #![tactic(auto)]
 
 pub mod event;

@@ -1,5 +1,4 @@
 pub mod Ends
-pub mod Owing
 pub mod Sessions
 pub mod Delivery
 pub mod Heirs

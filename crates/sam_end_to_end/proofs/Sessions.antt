@@ -36,7 +36,7 @@ use Rattle.sam_served.proofs.Journals.{acts_lead_on}
 use Rattle.sam_served.proofs.Lefts.{carried_left}
 use Rattle.sam_served.proofs.Programs.{programs_are_served}
 use Rattle.sam_served.proofs.Serving.{served_are_sessions}
-use Rattle.sam_end_to_end.proofs.Owing.{Owes, owes}
+use Rattle.sam_line.proofs.Owing.{Owes, owes}
 use Rattle.sam_end_to_end.specs.Sessions.{AreBrought, ByClient, ByProgram, Event, IsOfProgram, Leads, Session, SessionsAreOneRun, calls_in, hearing, new_session}
 use Rattle.sam_end_to_end.specs.Stopping.{ClientsStopForFullCounts}
 

@@ -1,4 +1,5 @@
--- A session whose program keeps its records in a file of sam_journal: what a crash leaves of the file is read, and is a crash of the program.
+-- A session whose program keeps its records in a file of sam_journal: what a crash leaves of the file is read, and is a crash of the
+-- program.
 use Rattle.std.specs.Prelude.{◌≡◌, ℕ, List, [], ◌∷◌, ◌++◌, length, map, take, Bool, Result, Ok}
 use Rattle.sam_journal.specs.Files.{Reads, file_bytes}
 use Rattle.sam_journal.specs.Records.{Entry}

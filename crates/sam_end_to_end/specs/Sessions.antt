@@ -62,8 +62,8 @@ IsOfProgram (Crash n) = Unit {0}
 
 -- ## What happens
 
--- These events lead from one session to the next. No act stops the client's end. What the client's line is given was brought: it is what the
--- program's servers took out for that connection. What the program's server takes, the line took out for that connection. And of what
+-- These events lead from one session to the next. No act stops the client's end. What the client's line is given was brought: it is what
+-- the program's servers took out for that connection. What the program's server takes, the line took out for that connection. And of what
 -- the program said is durable each crash leaves all
 abbrev pub Leads : Id → Session → List Event → Session → Type 0
 Leads id s [] z = z ≡ s

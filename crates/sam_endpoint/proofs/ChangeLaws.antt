@@ -2,7 +2,7 @@
 use Rattle.std.proofs.Common.{◌≡◌, ◌≢◌, ◌∙◌, refl, sym, ap, subst, ℕ, zero, suc, ◌+◌, ◌-◌, ◌≤◌, ◌⊎◌, inl, inr, min, Bool, true, false, ◌==◌, ◌&&◌, if◌then◌else◌, List, [], ◌∷◌, ◌++◌, length, length-append, length-drop, length-take, take, drop, drop-drop, append-nil, append_assoc, take-append-drop, set, Option, Some, None, arith, rules}
 use Rattle.std.proofs.Math.Seq.{drop-append-add, take-append-le, take-take}
 use Rattle.std.proofs.lemmas.Grind.{common_steps}
-use Rattle.std.proofs.lemmas.List.{get_or-set_other, get_or_past}
+use Rattle.std.proofs.lemmas.List.{get_or-set_other}
 use Rattle.sam_rasp.specs.Rasp.{PartialText, put_cells}
 use Rattle.sam_endpoint.specs.Changes.{IsChange, IsKept, last, unasked, kept_at, change_of, narrowed, kept_after, edit_touch, KeptTellsChange, UnaskedIsKept, AskingBegins}
 use Rattle.sam_endpoint.specs.declared.changes.Kept.{Kept}
@@ -102,9 +102,6 @@ kept_tells_change old new k is = go is.apart
     }
 
 -- ## What is kept of each file, in the list
-
-kept-past : (ks : List Kept) (f : ℕ) → length ks ≤ f → kept_at ks f ≡ unasked
-kept-past ks f past = get_or_past ks f unasked past
 
 pub kept-set_same : (ks : List Kept) (f : ℕ) (front back : ℕ) → kept_at (set ks f (narrowed (kept_at ks f) front back)) f ≡ narrowed (kept_at ks f) front back
 kept-set_same [] f front back = grind arith

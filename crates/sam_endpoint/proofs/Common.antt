@@ -1,14 +1,14 @@
 -- What the proofs of this crate cite most from its definitions and from the crates below.
-pub use Rattle.std.proofs.Common.{Bool, Err, IsTrue, IsUtf8, List, None, Ok, Option, Result, Some, [], ap, append-nil, append_assoc, arith, chars, drop, drop-cons, drop_of_length-le, encode_utf8_all, false, flat_map, get_or, get_or-drop, if◌then◌else◌, inl, inr, length, length-append, length-drop, length-set, length-take, map, min, option_copied, option_map, refl, rules, set, slice_get, subst, suc, sym, take, take-append-drop, take_all, true, ℕ, ◌++◌, ◌+◌, ◌-◌, ◌<◌, ◌∙◌, ◌∷◌, ◌≡◌, ◌≤◌, ◌⊎◌}
+pub use Rattle.std.proofs.Common.{Bool, Err, IsTrue, IsUtf8, List, None, Ok, Option, Result, Some, [], ap, append-nil, append_assoc, arith, chars, drop, drop-cons, encode_utf8_all, false, flat_map, get_or, get_or-drop, if◌then◌else◌, inl, inr, length, length-append, length-drop, length-set, length-take, map, option_copied, option_map, refl, rules, set, slice_get, subst, suc, sym, take, take-append-drop, true, ℕ, ◌++◌, ◌+◌, ◌-◌, ◌<◌, ◌∙◌, ◌∷◌, ◌≡◌, ◌≤◌, ◌⊎◌}
 pub use Rattle.std.proofs.lemmas.Grind.{common_steps, flat_map-append}
 pub use Rattle.std.proofs.lemmas.List.Elements.{All-append, All-cons, All-nil, All-same, All-tail}
 pub use Rattle.std.proofs.lemmas.Str.{IsUtf8-from_is_utf8, chars_from_encodes, is_utf8-from_IsUtf8}
 pub use Rattle.sam_endpoint.specs.Changes.{act_touch, frame_touch, kept_acted, kept_after, kept_received, left_by}
 pub use Rattle.sam_endpoint.specs.Drawing.{Copies, Shows, drawn}
 pub use Rattle.sam_endpoint.specs.HostEndpoints.{Answers, Feeds, FeedsAfter, GoesOn, IsIdle, PlainHostEndpoint, Serves, TakesIn, add_checks, with_file, writes_of}
-pub use Rattle.sam_endpoint.specs.HostSteps.{Answer, AnswersFirst, Ends, IsSound, Writes}
+pub use Rattle.sam_endpoint.specs.HostSteps.{Answer, AnswersFirst, IsSound, Writes}
 pub use Rattle.sam_endpoint.specs.Streams.{FitFrames, FitMessages, Gives, mesg_fault}
-pub use Rattle.sam_endpoint.specs.TermEndpoints.{Acts, Calls, FeedsIdle, Flushes, FlushesIdle, IsQuiet, IsDecided, Moves, PlainTermEndpoint, PutsIdle, last_stamp, oldest, refusals_from, shown}
+pub use Rattle.sam_endpoint.specs.TermEndpoints.{Acts, Calls, FeedsIdle, Flushes, FlushesIdle, IsDecided, Moves, PlainTermEndpoint, PutsIdle, last_stamp, oldest, refusals_from, shown}
 pub use Rattle.sam_endpoint.specs.TermSteps.{ActsAll, ActsFirst, Composes, Gains, Receives, ReceivesAll, ReceivesFirst, Resumes, Tries, stopped_by, written}
 pub use Rattle.sam_endpoint.specs.declared.fault.EndpointFault.{EndpointFault}
 pub use Rattle.sam_endpoint.specs.declared.fault.HostStop.{HostStop}
@@ -25,7 +25,7 @@ pub use Rattle.sam_mesg.specs.TerminalKinds.{FitsT}
 pub use Rattle.sam_mesg.specs.declared.hmesg.HFrame.{HFrame}
 pub use Rattle.sam_mesg.specs.declared.tmesg.Tmesg.{Tmesg}
 pub use Rattle.sam_rasp.proofs.SectionLaws.{length-cells}
-pub use Rattle.sam_rasp.specs.Sections.{cells, cells_of}
+pub use Rattle.sam_rasp.specs.Sections.{cells}
 pub use Rattle.sam_term.proofs.ActLaws.{idle_still, locked_still}
 unfoldable pub use Rattle.sam_term.proofs.ActLaws.{acted_in, term_in}
 pub use Rattle.sam_term.specs.Fitting.{AllFit, FitsLast, composed_in}

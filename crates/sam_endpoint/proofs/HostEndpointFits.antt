@@ -2,7 +2,7 @@
 use Rattle.std.proofs.Common.{Result, Ok, Err, refl, sym}
 use Rattle.sam_endpoint.specs.declared.fault.EndpointFault.TheVariants as fault
 use Rattle.sam_endpoint.specs.Duplexes.{PlainDuplex, TakesPiece}
-use Rattle.sam_endpoint.proofs.Common.{◌≡◌, subst, ℕ, false, List, [], ◌∷◌, Option, None, arith, All-nil, All-cons, All-tail, Tmesg, terminal, FitInTurn, Held, FitInPlace, FitsLast, StreamFault, HostStop, EndpointFault, HFrame, PlainHost, CanEncode, Gives, PlainHostEndpoint, IsSound}
+use Rattle.sam_endpoint.proofs.Common.{◌≡◌, subst, ℕ, List, [], ◌∷◌, Option, arith, All-nil, All-cons, All-tail, Tmesg, terminal, FitInTurn, Held, FitInPlace, FitsLast, StreamFault, HostStop, EndpointFault, HFrame, PlainHost, CanEncode, Gives, PlainHostEndpoint, IsSound}
 use Rattle.sam_mesg.proofs.Versions.{grows_t}
 use Rattle.sam_host.proofs.FrameFits.{fit_in_last}
 
@@ -12,9 +12,6 @@ fit_in_turn version (m ∷ ms) fit = All-cons FitsLast m ms (grows_t version m f
 
 given_fit : (h k : Held) (piece : List ℕ) (ms : List Tmesg) (broken_by : Option StreamFault) → Gives terminal h piece ms broken_by k → CanEncode terminal ms
 given_fit h k piece ms broken_by e = grind (arith, fit_in_turn)
-
-given_reads : (h k : Held) (piece : List ℕ) (ms : List Tmesg) (broken_by : Option StreamFault) → Gives terminal h piece ms broken_by k → broken_by ≡ None → k.failed ≡ false
-given_reads h k piece ms broken_by e u = grind arith
 
 -- the oldest message was answered
 pub answered_sound : (e g : PlainHostEndpoint) (version : ℕ) (m : Tmesg) → IsSound e → e.waiting ≡ m ∷ g.waiting → FitInPlace version g.unwritten

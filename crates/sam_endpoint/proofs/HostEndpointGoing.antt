@@ -1,5 +1,5 @@
 -- Going on with what waits, step by step.
-use Rattle.sam_endpoint.proofs.Common.{◌≡◌, ◌⊎◌, ◌<◌, ◌≤◌, take, drop, length, length-append, refl, sym, ap, subst, ◌∙◌, ℕ, List, [], ◌∷◌, ◌++◌, Option, None, Ok, Err, inl, inr, append_assoc, append-nil, arith, All-append, All-cons, All-nil, FitsH, Tmesg, HFrame, host, terminal, stream_of, Held, stream_of-append, PlainHost, answer, with_given, map, StreamFault, HostStop, EndpointFault, FitFrames, Gives, PlainHostEndpoint, Answers, Feeds, GoesOn, Serves, TakesIn, writes_of, Answer, AnswersFirst, Ends, Writes}
+use Rattle.sam_endpoint.proofs.Common.{◌≡◌, ◌⊎◌, ◌<◌, ◌≤◌, take, drop, length, length-append, refl, sym, ap, subst, ◌∙◌, ℕ, List, [], ◌∷◌, ◌++◌, None, Ok, Err, inl, inr, append_assoc, append-nil, arith, All-append, All-cons, All-nil, FitsH, Tmesg, HFrame, host, stream_of, stream_of-append, PlainHost, answer, with_given, map, HostStop, EndpointFault, FitFrames, PlainHostEndpoint, Answers, GoesOn, Serves, writes_of, AnswersFirst, Writes}
 use Rattle.std.proofs.Common.{All, length-take-le, take-append-drop}
 use Rattle.std.proofs.lemmas.List.{map-append}
 use Rattle.sam_host.specs.Marking.{mark_frames, marked}
@@ -201,23 +201,6 @@ not_answered e l g fault.CountFull gone refused = absurd refused
 pub fewer : (e g : PlainHostEndpoint) → AnswersFirst e g ⊎ TakesEdits e g → length g.waiting < length e.waiting
 fewer e g (inl first) = grind arith
 fewer e g (inr took) = grind (arith, length-append)
-
-pub ends : (e l g : PlainHostEndpoint) (result : Answer) → HasGone e l → l.waiting ≡ [] → Ends l result g → GoesOn e result g
-ends e l g (Ok done) gone none (broken_by, is) = grind (arith, append-nil)
-ends e l g (Err (fault.Stopped (stop.Stream why))) gone none (broken_by, is) = grind (arith, append-nil)
-ends e l g result u w q = grind arith
-
--- ## Feeding
-
-pub taken_in : (e before g : PlainHostEndpoint) (piece : List ℕ) (messages : List Tmesg) (broken_by : Option StreamFault) (rest : Held) → before ≡ e
-    → Gives terminal before.framer piece messages broken_by rest → g ≡ record before { framer = rest; waiting = messages; broken_by = broken_by } → TakesIn e piece g
-taken_in e before g piece messages broken_by rest is gives after = subst (λ (x : PlainHostEndpoint). TakesIn x piece g) is (messages, broken_by, rest, gives, after)
-
-pub nothing_behind : (e k : PlainHostEndpoint) → GoesOn e (Ok tt) k → k.broken_by ≡ None
-nothing_behind e k on = on.0.broken_by ∙ on.2
-
-pub fed : (e k m g : PlainHostEndpoint) (piece : List ℕ) (result : Answer) → e.stop ≡ None → GoesOn e (Ok tt) k → TakesIn k piece m → GoesOn m result g → Feeds e piece result g
-fed e k m g piece result goes on takes further = inr (goes, k, Ok tt, on, inl (m, takes, further))
 
 -- ## Single steps
 

@@ -1,12 +1,10 @@
 -- What every run of a host end comes to.
 use Rattle.sam_endpoint.proofs.Common.{◌≡◌, refl, sym, ap, subst, ◌∙◌, inl, inr, ℕ, ◌+◌, ◌≤◌, ◌⊎◌, List, [], ◌∷◌, ◌++◌, flat_map, flat_map-append, Option, Some, None, Result, Ok, Err, length, length-append, append_assoc, append-nil, arith, All-append, All-nil, All-same, FitsH, option_map, map, chars, with_given, Tmesg, HFrame, host, terminal, Splits, stream_of, version_after, Held, stream_of-append, version_after-append, Splits-then, PlainHost, answer, HostStop, StreamFault, Gives, mesg_fault, PlainHostEndpoint, Answers, Feeds, FeedsAfter, GoesOn, IsIdle, Serves, TakesIn, Answer}
 use Rattle.sam_mesg.specs.declared.fault.MesgFault.{MesgFault}
-use Rattle.sam_frame.specs.Framing.{HasRoom}
 use Rattle.sam_frame.specs.Reading.{IsStream}
 use Rattle.sam_frame.proofs.Cuttings.{Splits-longer}
 use Rattle.sam_host.specs.Asides.{Aside, Joins, Marks}
 use Rattle.sam_host.specs.Marking.{mark_frames, marked}
-use Rattle.sam_host.specs.declared.fault.HostFault.{HostFault}
 use Rattle.sam_host.specs.declared.fault.MarkFault.{MarkFault}
 use Rattle.sam_host.proofs.SoundLaws.{answers_are_counted}
 use Rattle.sam_endpoint.specs.declared.fault.AddFault.{AddFault}
@@ -409,17 +407,6 @@ pub kept_stop : (h : PlainHost) (stream out handed : List ℕ) (asides : Asides)
 kept_stop h stream out handed asides piece e g why goes (inl (who, stops, is, same)) kept = absurd (cc)
 kept_stop h stream out handed asides piece e g why goes (inr (going, k, first, on, after)) kept = stopped_after h stream out handed asides piece e k g first why on after kept
 
--- a piece that can be counted is no reason to refuse it
-pub none_full : (e g : PlainHostEndpoint) (piece : List ℕ) → HasRoom e.framer piece → Feeds e piece (Err fault.CountFull) g → ⊥
-none_full e g piece room (inl (why, stops, is, same)) = cc
-none_full e g piece room (inr (going, k, Ok done, on, inl (m, takes, last))) = last
-none_full e g piece room (inr (going, k, Ok done, on, inr (inl (is, counted, same)))) = cc
-none_full e g piece room (inr (going, k, Ok done, on, inr (inr (is, full, same)))) = let one = on.0.framer in grind arith
-none_full e g piece room (inr (going, k, Err fault.Unfinished, on, (is, same))) = cc
-none_full e g piece room (inr (going, k, Err (fault.Stopped why), on, (is, same))) = cc
-none_full e g piece room (inr (going, k, Err fault.OutOfMemory, on, after)) = on
-none_full e g piece room (inr (going, k, Err fault.CountFull, on, after)) = on
-
 -- ## Runs
 
 pub kept_run : (h : PlainHost) (stream out handed : List ℕ) (asides : Asides) (calls : List Call) (e g : PlainHostEndpoint) → Runs e calls g → Kept h stream out handed asides e
@@ -511,14 +498,6 @@ abbrev Reads : Type 0
 Reads =
     (version : ℕ) (bytes : List ℕ) (ms ns : List Tmesg) (z y : List ℕ) (o p : Option MesgFault)
     → IsStream terminal version bytes ms z o → IsStream terminal version bytes ns y p → (ms ≡ ns) × (z ≡ y) × (o ≡ p)
-
-abbrev answered_host : PlainHost → Result (PlainHost × List HFrame) HostFault → PlainHost
-answered_host h (Ok r) = r.0
-answered_host h (Err why) = h
-
-abbrev answered_frames : Result (PlainHost × List HFrame) HostFault → List HFrame
-answered_frames (Ok r) = r.1
-answered_frames (Err why) = []
 
 one_service : (h : PlainHost) (steps : List Step) (a b : List HFrame) (v w : List ℕ) (g k : PlainHost) → Serves h steps a v g → Serves h steps b w k → (g ≡ k) × (a ≡ b) × (v ≡ w)
 one_service h [] a b v w g k p q = (p.2 ∙ sym q.2, p.0 ∙ sym q.0, p.1 ∙ sym q.1)

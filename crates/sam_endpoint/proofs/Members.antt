@@ -1,8 +1,8 @@
 -- Members of a partial text that are copied, section by section, into a buffer.
-use Rattle.sam_endpoint.proofs.Common.{◌≡◌, ◌∙◌, sym, ap, ℕ, ◌+◌, ◌-◌, ◌<◌, ◌≤◌, ◌⊎◌, List, [], ◌∷◌, ◌++◌, length, length-append, take, drop, suc, Option, Some, slice_get, append_assoc, arith, map, get_or, set, drop-cons, append-nil, take_all, take-append-drop, length-drop, length-take, get_or-drop, drop_of_length-le, cells, Copies, Shows, drawn}
-use Rattle.std.proofs.Math.Seq.{take-append-add, drop-append-add, set-append_seam}
+use Rattle.sam_endpoint.proofs.Common.{◌≡◌, ◌∙◌, sym, ap, ℕ, ◌+◌, ◌-◌, ◌<◌, ◌≤◌, ◌⊎◌, List, [], ◌∷◌, ◌++◌, length, length-append, take, drop, suc, Option, Some, slice_get, append_assoc, arith, map, get_or, set, drop-cons, take-append-drop, length-drop, length-take, get_or-drop, cells, Copies, Shows, drawn}
+use Rattle.std.proofs.Math.Seq.{set-append_seam}
 use Rattle.std.proofs.lemmas.Option.{get_or_from_slice_get}
-use Rattle.std.proofs.lemmas.List.{take-append-le, drop-append-le, take_more, length-map, map-append}
+use Rattle.std.proofs.lemmas.List.{take_more, length-map, map-append}
 use Rattle.std.proofs.Common.{drop-drop, take-take, take_at}
 use Rattle.std.proofs.lemmas.List.{drop-take}
 use Rattle.sam_rasp.proofs.Changes.{drop-past}
@@ -10,15 +10,6 @@ use Rattle.sam_rasp.proofs.Readings.{rest_at}
 use Rattle.sam_rasp.proofs.SectionLaws.{length-cells}
 use Rattle.sam_rasp.specs.Sections.{size}
 use Rattle.sam_rasp.specs.declared.section.Section.{Section}
-
-either : (n m : ℕ) → (n ≤ m) ⊎ (m < n)
-either n m = grind arith
-
-take-both : {X : Type 0} (n : ℕ) (xs ys : List X) → take n (xs ++ ys) ≡ take n xs ++ take (n - length xs) ys
-take-both n xs ys = grind (arith, (take-append-le n xs ys), (append-nil (take n xs)), (take-append-add xs ys), (take_all n xs))
-
-drop-both : {X : Type 0} (n : ℕ) (xs ys : List X) → drop n (xs ++ ys) ≡ drop n xs ++ drop (n - length xs) ys
-drop-both n xs ys = grind (arith, drop-append-le, drop-append-add, drop_of_length-le)
 
 -- ## One section
 

@@ -1,11 +1,10 @@
 -- Events leave the held ones only as they are done or refused, one at a time; frames and flushes leave them all.
-use Rattle.sam_endpoint.proofs.Common.{◌≡◌, refl, ap, ◌∙◌, ℕ, ◌+◌, Bool, List, [], ◌∷◌, length, Option, Some, None, Result, Ok, Err, if◌then◌else◌, arith, Tmesg, HFrame, PlainTerminal, Made, act_of, act_on, decided, if_countable, flush_of, flushed, take_of, event_outcome, frame_outcome, all_composed, composed, sends, sends_all, sends_if, requested, wanted, all_wanted, unchanged, made_by_type, made_by_cut, made_by_paste, made_by_snarf, made_by_view, made_by_load, made_by_edit, replaced, edit_messages, took_bindname, took_data, took_grow, took_growdata, took_cut, took_unlockfile, took_close, took_exit, Verdict, Acted, Done, UserEvent, acted_in, term_in, IsDecided}
+use Rattle.sam_endpoint.proofs.Common.{◌≡◌, refl, ap, ◌∙◌, ℕ, ◌+◌, Bool, List, [], ◌∷◌, length, Option, Some, None, Ok, if◌then◌else◌, arith, Tmesg, HFrame, PlainTerminal, Made, act_of, act_on, decided, if_countable, flush_of, flushed, take_of, event_outcome, frame_outcome, all_composed, composed, sends, sends_all, sends_if, requested, wanted, all_wanted, unchanged, made_by_type, made_by_cut, made_by_paste, made_by_snarf, made_by_view, made_by_load, made_by_edit, replaced, edit_messages, took_bindname, took_data, took_grow, took_growdata, took_cut, took_unlockfile, took_close, took_exit, Verdict, Acted, Done, UserEvent, acted_in, term_in, IsDecided}
 use Rattle.std.specs.Prelude.{◌==◌, ◌&&◌}
 use Rattle.sam_runes.specs.Texts.{is_empty}
 use Rattle.sam_mesg.specs.declared.tmesg.Tmesg.TheVariants.{Tack}
 use Rattle.sam_mesg.specs.declared.hmesg.Hmesg.{Hmesg}
 use Rattle.sam_mesg.specs.declared.hmesg.Hmesg.TheVariants.{Hcheck, Hunlockfile, Hack}
-use Rattle.sam_term.specs.declared.fault.TermFault.{TermFault}
 use Rattle.sam_term.proofs.Edits.{held-composed, flushed-held}
 use Rattle.sam_term.specs.Editing.{shown_from}
 use Rattle.sam_term.specs.declared.event.UserEvent.TheVariants.{Load, Edit}
@@ -64,11 +63,6 @@ frame_keeps t (Hcheck f) = requested-keeps t f
 frame_keeps t (Hunlockfile f) = requested-keeps (took_unlockfile t f) f
 frame_keeps t Hack = either-keeps t.has_exited (t, []) (sends t unchanged (Tack ∷ [])) t.held refl (sends-plain t (Tack ∷ []))
 frame_keeps t _ = refl
-
--- what was made, where it was
-abbrev made_in : Result Made TermFault → PlainTerminal → PlainTerminal
-made_in (Ok made) t = made.0
-made_in (Err why) t = t
 
 pub counted : (n : ℕ) (made : Made) (u : PlainTerminal) (ms : List Tmesg) → if_countable n made ≡ Ok (u, ms) → u ≡ made.0
 counted n made u ms e = grind arith

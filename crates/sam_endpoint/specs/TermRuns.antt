@@ -164,8 +164,8 @@ handed_out (Changed kept) = []
 
 -- The terminal has done steps. In them it received the first frames of the stream that came in, and the others wait, with what is wrong
 -- after them; and it was given these events, in order. All messages that it composed fit, and in order they are what was taken out, what
--- is pending and what is not written yet. All refusals of events, in order, each with the number of its event, are those that were handed out and
--- those that wait to be.
+-- is pending and what is not written yet. All refusals of events, in order, each with the number of its event, are those that were handed
+-- out and those that wait to be.
 pub record HasDone (stream : List ℕ) (events : List UserEvent) (out : List ℕ) (handed : List (ℕ × Refusal)) (e : PlainTermEndpoint)
     : Type 0 where
   pub steps : List Step

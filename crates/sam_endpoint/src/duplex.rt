@@ -148,8 +148,8 @@ impl<In: Wire, Out: Wire, Stop: Copy> Duplex<In, Out, Stop> {
         Ok(())
     }
 
-    /// Writes what is left over and then this message into the pending bytes, all or none. Its only error is out of memory, which leaves all
-    /// as it was.
+    /// Writes what is left over and then this message into the pending bytes, all or none. Its only error is out of memory, which leaves
+    /// all as it was.
     #[tactic(auto, using(crate::proofs::Duplexes::one_put))]
     pub(crate) fn write_behind(&mut self, message: Out) -> Result<(), AllocError>
         requires { CanEncode Out.direction (self.old.unwritten ++ message ∷ []) }

@@ -1,10 +1,9 @@
 //! A host at one end of a stream of bytes each way.
 
-ghost use Rattle.std.specs.Prelude.{◌≡◌, ◌↔◌, ℕ, ◌+◌, ◌<◌, ◌≤◌, [], ◌∷◌, ◌++◌, IsTrue, IfOk, IfErr, OnOk, OnErr, MatchOption, drop, length, min, take, true, false, None, slice_get, option_to_list};
+ghost use Rattle.std.specs.Prelude.{◌≡◌, ◌↔◌, ◌<◌, ◌∷◌, ◌++◌, IsTrue, IfOk, OnOk, OnErr, MatchOption, drop, length, min, take, true, false, None, slice_get, option_to_list};
 ghost use Rattle.std.specs.Str.{chars, is_utf8};
 ghost use Rattle.std.specs.VecDeque.{deque_len, deque_capacity};
 ghost use Rattle.sam_runes.specs.Checks.{first_of_checks};
-ghost use Rattle.sam_term.specs.Fitting.{FitsLast};
 ghost use Rattle.sam_endpoint.specs.HostEndpoints.{Adds, Feeds, Finishes, GoesOn, IsIdle, Marks, new_host_endpoint, add_checks, fault_place, writes_of};
 ghost use Rattle.sam_endpoint.specs.HostRuns.{begun_with};
 ghost use Rattle.sam_endpoint.specs.HostSteps.{Brings, Ends, Handles, HandlesNext, TakesSo, Writes, written_behind};

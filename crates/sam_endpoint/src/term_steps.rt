@@ -1,7 +1,6 @@
 //! A terminal that goes on by single steps, each of which says what it did.
 
 ghost use Rattle.std.specs.Prelude.{◌≡◌, ◌↔◌, ◌<◌, [], IfErr, IsTrue, OnOk, length, option_copied, option_map, slice_get};
-ghost use Rattle.sam_endpoint.specs.TermEndpoints.{IsDone};
 ghost use Rattle.sam_endpoint.specs.TermSteps.{Ends};
 ghost use Rattle.sam_endpoint.specs.TermStepping.{BringsEvent, BringsFrame, BringsIn, ComposesIn, DecidesStep, IsNotReady, IsReady, ReceivesStep, Steps, next_frame};
 ghost use Rattle.sam_mesg.specs.HostKinds.{fits_h};
@@ -35,8 +34,8 @@ impl TermEndpoint {
     /// Takes a frame of the host's that is decoded already, instead of its bytes: it waits for `step` to have the terminal receive it. The
     /// law of two endpoints (sam_joined) speaks of endpoints that get bytes.
     ///
-    /// Errors, in this order: `Stopped` and `Waiting`, as of `bring`; `OutOfMemory`. After an error the frame is not taken, and the endpoint
-    /// is as it was.
+    /// Errors, in this order: `Stopped` and `Waiting`, as of `bring`; `OutOfMemory`. After an error the frame is not taken, and the
+    /// endpoint is as it was.
     #[tactic(auto, using(crate::proofs::TermEndpointStepping::not_ready_frame))]
     pub fn bring_frame(&mut self, frame: HFrame) -> Result<(), BringFault<TermStop>>
         requires fits { IsTrue (fits_h 2 frame.msg) }

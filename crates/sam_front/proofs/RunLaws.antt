@@ -1,8 +1,7 @@
 -- What holds of the list of command lines.
-use Rattle.std.proofs.Common.{◌≡◌, refl, sym, ap, subst, ℕ, suc, ◌+◌, ◌-◌, ◌<◌, Bool, List, [], ◌∷◌, ◌++◌, drop, take, map, length, length-append, set, get_or, arith}
-use Rattle.std.proofs.Math.Seq.{take-append_seam}
+use Rattle.std.proofs.Common.{◌≡◌, refl, sym, ap, subst, ℕ, suc, ◌+◌, ◌-◌, ◌<◌, Bool, List, [], ◌∷◌, ◌++◌, drop, take, map, length, set, get_or, arith}
 use Rattle.std.proofs.lemmas.List.Edits.{map_over_more}
-use Rattle.sam_front.specs.Runs.{new_run, numbered, run_after, taken_back}
+use Rattle.sam_front.specs.Runs.{new_run, numbered, run_after}
 use Rattle.sam_front.specs.declared.runs.Run.{Run}
 
 pub step_more : (request len : ℕ) (locked : Bool) (xs ys : List Run) (i : ℕ) (x : Run) → i < length xs
@@ -17,13 +16,3 @@ numbered_at request (r ∷ s ∷ rs) some =
     let next : length (r ∷ s ∷ rs) - 1 ≡ suc (length (s ∷ rs) - 1) = omega arith in
     subst (λ n. set (r ∷ s ∷ rs) n (new_run request) ≡ numbered request (r ∷ s ∷ rs)) (sym next)
     (ap (λ xs. r ∷ xs) (numbered_at request (s ∷ rs) (omega arith)))
-
-front-is : (rest : List Run) (r : Run) → take (length (rest ++ r ∷ []) - 1) (rest ++ r ∷ []) ≡ rest
-front-is rest r =
-    let one : length (rest ++ r ∷ []) ≡ length rest + 1 = length-append rest (r ∷ []) in
-    let same : length (rest ++ r ∷ []) - 1 ≡ length rest = omega (arith, one) in
-    subst (λ n. take n (rest ++ r ∷ []) ≡ rest) (sym same) (take-append_seam rest (r ∷ []))
-
--- the newest is taken off
-pub back_is : (rs rest : List Run) (r : Run) → rs ≡ rest ++ r ∷ [] → rest ≡ taken_back rs
-back_is rs rest r is = subst (λ xs. rest ≡ taken_back xs) (sym is) (sym (front-is rest r))

@@ -179,7 +179,8 @@ BeginsTask f o tag path now (Err why) n =
 -- A write is asked for, and it is a task, or that of the write which it shares. Or why not, and no task is begun
 abbrev pub WritesTask : Front → ℕ → Result ℕ WriteFault → Front → Type 0
 WritesTask f tag (Ok number) n =
-    (newest request : ℕ) × (t : PlainTasks) × (m : Front) × Begins f.tasks (Ok newest) t × Asks (with_tasks f t) (event.Write tag) (Ok request) m
+    (newest request : ℕ) × (t : PlainTasks) × (m : Front) × Begins f.tasks (Ok newest) t
+    × Asks (with_tasks f t) (event.Write tag) (Ok request) m
     × Shares t request tag number n.tasks × (n ≡ with_tasks m n.tasks)
 WritesTask f tag (Err (unwritten.Begin why)) n = Begins f.tasks (Err why) f.tasks × (n ≡ f)
 WritesTask f tag (Err (unwritten.Ask why)) n =
@@ -191,7 +192,8 @@ WritesTask f tag (Err (unwritten.Ask why)) n =
 -- the host has something to answer: a task, or what a lock or a held event is about
 abbrev pub Waits : Front → Type 0
 Waits f =
-    (0 < length f.tasks.waiting) ⊎ ((term_of f).command_lock ≡ true) ⊎ (0 < length (term_of f).held) ⊎ (is_any_locked (term_of f).files ≡ true)
+    (0 < length f.tasks.waiting) ⊎ ((term_of f).command_lock ≡ true) ⊎ (0 < length (term_of f).held)
+    ⊎ (is_any_locked (term_of f).files ≡ true)
 
 -- the line knows at this time whether an answer is due: the program waits for one, or the host has something to answer
 abbrev pub Knows : Front → ℕ → Front → Type 0
@@ -355,7 +357,8 @@ missing_of f r =
 abbrev pub load_missing : Front → Ran → Option ℕ → ℕ → Next → Next
 load_missing f r None now other = other
 load_missing f r (Some gap) now other =
-    if is_locked (term_of f) 0 then other else not_before f.loader.pauses_until now (next.Load 0 gap (min (end_of r - gap) (max f.loader.size page)))
+    if is_locked (term_of f) 0 then other
+    else not_before f.loader.pauses_until now (next.Load 0 gap (min (end_of r - gap) (max f.loader.size page)))
 
 abbrev pub load_ran : Front → Option Ran → ℕ → Next → Next
 load_ran f None now other = other
@@ -497,8 +500,8 @@ abbrev pub Leaving : Option ℕ → Front → ℕ → Result Told GoOnFault → 
 Leaving (Some request) f now answer n = (answer ≡ Ok (told.Lapsed request)) × (n ≡ without_left f)
 Leaving None f now answer n = (loads : Result Bool GoOnFault) × (m : Front) × Loads f now loads m × Settles m loads now answer n
 
--- Of a session that is over, what is left open is told one by one. Where the user has left, a command line of which not all is loaded lapses.
--- Else texts are loaded; where there is nothing to load now either, the line learns whether an answer is due
+-- Of a session that is over, what is left open is told one by one. Where the user has left, a command line of which not all is loaded
+-- lapses. Else texts are loaded; where there is nothing to load now either, the line learns whether an answer is due
 abbrev pub Loading : Bool → Front → ℕ → Result Told GoOnFault → Front → Type 0
 Loading true f now answer n = (answer ≡ Ok (lapsed f)) × (n ≡ lapsing f)
 Loading false f now answer n = Leaving (left_run f) f now answer n
@@ -508,8 +511,8 @@ abbrev pub Idles : Option Ran → Front → ℕ → Result Told GoOnFault → Fr
 Idles (Some r) f now answer n = (answer ≡ Ok (told.Ran r)) × (n ≡ with_runs f (drop 1 f.runs))
 Idles None f now answer n = Loading (is_lost f) f now answer n
 
--- a step is told with the number of its request, a load that acts and a command line that begins or ends are noted, and for a while no slice
--- is loaded
+-- a step is told with the number of its request, a load that acts and a command line that begins or ends are noted, and for a while no
+-- slice is loaded
 abbrev pub stepping : Front → TermStep → ℕ → Front
 stepping f s now = record (telling f s) {
   loader = stepped (record f.loader { slice = acted f.loader.slice (request_of f s) }) now;

@@ -159,7 +159,9 @@ stretch r place count = record { count = count; gaps = gaps_among r place count 
 
 -- so many from the place on as there are; of a text that may be torn there, so few that there are not too many holes
 abbrev pub untorn : PartialText → ℕ → ℕ → Stretch
-untorn r place count = if may_be_torn count (gaps_among r place count) then stretch r place (min count (2 * most_holes)) else stretch r place count
+untorn r place count =
+    if may_be_torn count (gaps_among r place count) then stretch r place (min count (2 * most_holes))
+    else stretch r place count
 
 abbrev pub stretch_of : PartialText → ℕ → ℕ → Stretch
 stretch_of r place count = untorn r place (min count (length r - place))

@@ -1,14 +1,13 @@
 //! `Front`: what a front end calls.
 
-ghost use Rattle.std.specs.Prelude.{false, ◌≡◌, ◌∷◌, ◌↔◌, ◌⊎◌, ◌||◌, ◌<◌, IsTrue, OnErr, OnOk, true, length, option_map, ◌-◌, ℕ, List, [], Ok, Some};
+ghost use Rattle.std.specs.Prelude.{◌≡◌, ◌∷◌, ◌↔◌, IsTrue, OnErr, OnOk, true, option_map, ◌-◌, Ok, Some};
 ghost use Rattle.sam_line.specs.Clock as clocks;
 ghost use Rattle.sam_line.specs.Line.{is_due};
 ghost use Rattle.sam_overlay.specs.Overlays.{is_request};
 ghost use Rattle.sam_client.specs.Batches.{ReplacesEach};
 ghost use Rattle.sam_client.specs.Clients.Act.{Replace};
-ghost use Rattle.sam_front.specs.Fronts.{Asks, BeginsTask, FrontGoesOn, Hears, Idles, Knows, Says, SaysTask, SaysWrite, Tells, Types, Waits, WritesTask, can_be_written, command_len, due_write, ended_run, ends, is_answer, is_lost, lapsed, lapsing, left_run, missing_of, new_front, request_of, rested, say_fault, sooner, stepping, task_message, telling, told_run, without_left, without_ran};
+ghost use Rattle.sam_front.specs.Fronts.{Asks, BeginsTask, FrontGoesOn, Hears, Idles, Knows, Says, SaysTask, SaysWrite, Tells, Types, Waits, WritesTask, can_be_written, command_len, due_write, ended_run, ends, is_answer, is_lost, lapsed, lapsing, left_run, new_front, request_of, rested, say_fault, sooner, stepping, task_message, telling, told_run, without_left, without_ran};
 ghost use Rattle.sam_front.specs.Loader.{later, rest_time, without};
-ghost use Rattle.sam_front.specs.Tasks.{number_of_write};
 ghost use Rattle.sam_term.specs.Term.{is_any_locked};
 
 use crate::fault::{BeginFault, WriteFault};

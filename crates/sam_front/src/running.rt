@@ -168,10 +168,11 @@ impl Front {
     /// request that types its newline. `go_on` tells once that it has run, and what it printed; or that the request was refused or lapsed.
     /// The command file is opened for it, and emptied if it has `MOST_KEPT` runes and no other line is open.
     ///
-    /// Errors, in this order: `NotLine` if the line has a newline; `NotOpen` if the terminal would take no write of the file, or if a request
-    /// waits that closes it, since the line would find another file; `TooLong` if it has more than `MOST_LINE` runes; `Ask(TooMany)` if
-    /// `MOST_RUNS` lines are open, or if its requests would be too many; after these all is as before. `Ask(OutOfMemory)` for the line itself; and what `Front::ask` answers for one of its requests, after which the
-    /// line doesn't run, though the first of them may act.
+    /// Errors, in this order: `NotLine` if the line has a newline; `NotOpen` if the terminal would take no write of the file, or if a
+    /// request waits that closes it, since the line would find another file; `TooLong` if it has more than `MOST_LINE` runes;
+    /// `Ask(TooMany)` if `MOST_RUNS` lines are open, or if its requests would be too many; after these all is as before. `Ask(OutOfMemory)`
+    /// for the line itself; and what `Front::ask` answers for one of its requests, after which the line doesn't run, though the first of
+    /// them may act.
     pub fn run(&mut self, tag: u16, line: &[char], alloc: Global) -> Result<u64, RunFault>
         ensures { RunsLine self.old tag line.now result self.new }
     {

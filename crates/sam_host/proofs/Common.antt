@@ -22,5 +22,5 @@ pub use Rattle.sam_runes.specs.Texts.{Range, RoomyText, all_tags, as_lines, eith
 pub use Rattle.sam_runes.specs.declared.edit.Edit.{Edit}
 pub use Rattle.sam_text.proofs.OutcomeLaws.{HasShortParts, line_short, named-within}
 unfoldable pub use Rattle.sam_text.specs.Files.{AreAnnounced}
-pub use Rattle.sam_text.specs.Files.{AreFit, AreSoundFiles, HasShortName, IsFit, IsOutcomeFor, IsOutcomeOf, IsPattern, PlainFile, PlainFiles, PlainOutcome, after_print, announce_all, blank_file, committed, cut_file, file_at, first_files, has_file, has_room, may_look, opened_file, pasted_file, put_file, put_outcome, typed_file, with_work, without_file, written_file}
+pub use Rattle.sam_text.specs.Files.{AreFit, AreSoundFiles, HasShortName, IsFit, IsOutcomeOf, IsPattern, PlainFile, PlainFiles, PlainOutcome, after_print, announce_all, blank_file, committed, cut_file, file_at, first_files, has_file, has_room, may_look, opened_file, pasted_file, put_file, put_outcome, typed_file, with_work, without_file, written_file}
 pub use Rattle.sam_text.specs.Meaning.{line_outcome, meaning, work_file, work_on}

@@ -1,13 +1,6 @@
 -- Small laws of files: what may be put in, a part of a text, and a snarf buffer that a message holds.
-use Rattle.sam_host.proofs.Common.{◌≡◌, ℕ, ◌-◌, ◌≤◌, List, [], ◌∷◌, length, drop, true, arith, length-append, first_of_checks, None, ◌+◌, file_at, IsTrue, encode_utf8_all, length-take, leb-true, max_runes, part, last_snarf_limit, PlainFiles, has_file, fits_t, Tsetsnarf}
-use Rattle.std.proofs.Common.{le-ltb}
+use Rattle.sam_host.proofs.Common.{ℕ, ◌-◌, ◌≤◌, List, [], ◌∷◌, length, drop, arith, length-append, IsTrue, encode_utf8_all, length-take, leb-true, max_runes, part, last_snarf_limit, fits_t, Tsetsnarf}
 use Rattle.std.proofs.lemmas.Str.{length-encode}
-use Rattle.sam_text.specs.Files.{insert_checks}
-
--- nothing stands against putting n runes in where there is a file, a place and room for them
-pub insert_allowed : (fs : PlainFiles) (f p n : ℕ) → has_file fs f ≡ true → p ≤ length (file_at fs f).text → length (file_at fs f).text + n ≤ max_runes
-    → first_of_checks (insert_checks fs f p n) ≡ None
-insert_allowed fs f p n there place fits = grind (arith, le-ltb)
 
 pub part_length : (t : List ℕ) (a b : ℕ) → length (part t a b) ≤ b - a
 part_length t a b = omega (arith, length-take (b - a) (drop a t))

@@ -1,5 +1,5 @@
 -- The names that are told, a tag further.
-use Rattle.sam_host.proofs.Common.{◌≡◌, ◌∙◌, ap, refl, zero, [], Option, Some, None, IfSome, true, when, AreAnnounced, append_assoc, append-nil, ℕ, suc, ◌+◌, ◌<◌, ◌≤◌, List, ◌∷◌, ◌++◌, length, drop, arith, drop_of_length-le, Slots, slot, PlainFile, Hmesg, HFrame, stamped, told_at, told_names}
+use Rattle.sam_host.proofs.Common.{◌≡◌, refl, zero, [], Option, Some, None, IfSome, true, when, AreAnnounced, append_assoc, append-nil, ℕ, suc, ◌+◌, ◌<◌, ◌≤◌, List, ◌∷◌, ◌++◌, length, drop, arith, drop_of_length-le, Slots, slot, PlainFile, HFrame, stamped, told_at, told_names}
 use Rattle.sam_host.proofs.FrameLaws.{stamped_append}
 
 names_at : (g f : ℕ) (ss : Slots PlainFile) → f < length ss → told_names g (drop f ss) ≡ told_at g (slot ss f) ++ told_names (1 + g) (drop (suc f) ss)
@@ -29,9 +29,6 @@ names_new (suc n) ss p l all =
     let passed : told_names 1 (drop 1 ss) ≡ told_names (1 + n) (drop (1 + n) ss) = names_passed n 1 ss (omega arith) (omega (arith, l)) (λ g q m. all g q (omega (arith, m))) in
     grind (arith, passed)
 names_new zero ss p l all = absurd (omega (arith, p))
-
-later : (f : ℕ) (ss : Slots PlainFile) (ms : List Hmesg) → ms ++ told_names (1 + f) (drop (suc f) ss) ≡ ms ++ told_names (f + 1) (drop (f + 1) ss)
-later f ss ms = grind arith
 
 -- a name that is told
 pub name_told : (seen f : ℕ) (ss : Slots PlainFile) (before : List HFrame) → f < length ss

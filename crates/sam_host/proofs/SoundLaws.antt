@@ -1,5 +1,5 @@
 -- The host stays sound, and its answers are counted.
-use Rattle.sam_host.proofs.Common.{◌≡◌, ℕ, suc, ◌+◌, ◌≤◌, List, [], ◌∷◌, length, Option, None, Ok, Err, refl, ap, subst, arith, unwrap_or, All, All-nil, All-cons, most_in_name, slot, first_of_checks, none_holds, opened_file, written_file, PlainFile, PlainFiles, PlainOutcome, blank_file, file_at, put_file, typed_file, cut_file, pasted_file, put_outcome, HasShortName, IsFit, AreFit, AreSoundFiles, HasShortParts, line_short, named-within, after_t, Tmesg, Hmesg, HFrame, PlainHost, IsVersion, Reply, Answer, answer, counted, stamped, host_checks, new_file, given_slots, reply_to, AreNamesShort, IsSound, AreGiven, StartsSound, StaysSound, FramesFit, AnswersAreCounted, IsSilentWhereDone, FitInPlace}
+use Rattle.sam_host.proofs.Common.{◌≡◌, ℕ, suc, ◌+◌, ◌≤◌, List, [], ◌∷◌, length, Option, None, Ok, Err, refl, ap, subst, arith, unwrap_or, All, All-nil, All-cons, most_in_name, slot, first_of_checks, none_holds, opened_file, written_file, PlainFile, PlainFiles, PlainOutcome, blank_file, file_at, put_file, typed_file, cut_file, pasted_file, put_outcome, HasShortName, IsFit, AreFit, AreSoundFiles, HasShortParts, line_short, named-within, after_t, Tmesg, Hmesg, HFrame, PlainHost, IsVersion, Answer, answer, counted, stamped, host_checks, new_file, given_slots, reply_to, AreNamesShort, IsSound, AreGiven, StartsSound, StaysSound, FramesFit, AnswersAreCounted, IsSilentWhereDone, FitInPlace}
 use Rattle.sam_text.specs.Files.{dirty_file}
 use Rattle.sam_host.specs.Marking.{MarksKeepSound}
 use Rattle.sam_text.proofs.FitLaws.{all-put, fit-put, fit-typed, fit-cut, fit-pasted, fit-print, fit-committed}
@@ -50,9 +50,6 @@ pub reply_fits : (h : PlainHost) (m : Tmesg) → first_of_checks (host_checks h 
 reply_fits h m e all = reply_keeps AreFit fits_kept h m e (λ f is. fit-put h.files f (opened_file (file_at h.files f)) all (all f)) all
 
 -- ## The count and the version
-
-abbrev Stands : PlainHost → Reply → Type 0
-Stands h r = (r.0.taken ≡ h.taken) × (r.0.version ≡ h.version)
 
 -- no reply changes the count, and only that to Tversion the version
 pub reply_stands : (h : PlainHost) (m : Tmesg) → first_of_checks (host_checks h m) ≡ None

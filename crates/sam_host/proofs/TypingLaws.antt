@@ -1,5 +1,5 @@
 -- The line that a typing ends, and typing and sending in terms of a line.
-use Rattle.sam_host.proofs.Common.{common_steps, ◌≡◌, ◌≢◌, ℕ, ◌+◌, ◌-◌, ◌<◌, ◌≤◌, List, [], ◌∷◌, ◌++◌, length, take, drop, reverse, Bool, true, false, not, cond, if◌then◌else◌, nat_eq, refl, ap, ◌∙◌, arith, append_assoc, append-nil, length-append, rules, ◌&&◌, ◌||◌, ◌==◌, take_at, drop_at, ins, part, is_empty, ends_line, as_lines, last_line, newline, max_runes, slot-put_same, file_at, typed_file, has_room, after_print, Hunlock, PlainHost, line_to, with_file, with_files, printed, reply_line, reply_type, reply_send}
+use Rattle.sam_host.proofs.Common.{common_steps, ◌≡◌, ◌≢◌, ℕ, ◌+◌, ◌-◌, ◌<◌, ◌≤◌, List, [], ◌∷◌, ◌++◌, length, take, drop, reverse, Bool, true, false, not, cond, if◌then◌else◌, nat_eq, refl, ap, ◌∙◌, arith, append_assoc, append-nil, length-append, rules, ◌&&◌, ◌||◌, ◌==◌, take_at, drop_at, ins, part, ends_line, as_lines, last_line, newline, max_runes, slot-put_same, file_at, typed_file, has_room, after_print, Hunlock, PlainHost, line_to, with_file, with_files, printed, reply_line, reply_type, reply_send}
 use Rattle.std.proofs.Common.{eqb, drop-drop, length-take-le, sym, take-add}
 use Rattle.std.proofs.Math.Seq.{take-length, drop-length}
 use Rattle.std.proofs.lemmas.List.{length-reverse, reverse-append, take-append-le, drop-append-le}
@@ -87,9 +87,6 @@ type_alone h f p s test = grind arith
 pub ruleset type_facts = (type_as_line, type_alone, ends_filled)
 
 -- ## Sending
-
-not-empty : (s : List ℕ) → 0 < length s → is_empty s ≡ false
-not-empty s e = grind arith
 
 -- what is printed is typed at the end
 pub print_as_typed : (h : PlainHost) (s : List ℕ) → 0 < length s → has_room h.files s ≡ true → with_files h (after_print h.files s) ≡ sent h s

@@ -83,7 +83,8 @@ abbrev pub Tells : PlainFiles → ℕ → ℕ → List Tmesg → List TextChange
 Tells fs f taken [] cs frames = (cs ≡ []) × (frames ≡ [])
 Tells fs f taken (m ∷ ms) cs frames =
     ((c : TextChange) × (rest : List TextChange) × (m ≡ message_of f c) × (cs ≡ c ∷ rest) × Tells fs f (taken + 1) ms rest frames)
-    ⊎ ((g : ℕ) × (rest : List HFrame) × (m ≡ Tcheck g) × IsOpened fs g × (frames ≡ checked taken g ∷ rest) × Tells fs f (taken + 1) ms cs rest)
+    ⊎ ((g : ℕ) × (rest : List HFrame) × (m ≡ Tcheck g) × IsOpened fs g × (frames ≡ checked taken g ∷ rest)
+    × Tells fs f (taken + 1) ms cs rest)
 
 -- the entry is put behind the others: a change among the changes, the answer to a check among the frames
 abbrev pub Notes : Entry → ℕ → (cs : List TextChange) (frames : List HFrame) (ds : List TextChange) (more : List HFrame) → Type 0

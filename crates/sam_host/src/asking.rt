@@ -1,7 +1,7 @@
 //! The answers to what the terminal asks of a file: a check, a stretch of its text, the start of a line, a word, an occurrence. A method
 //! for a kind leaves the count of messages to its caller, and after an error the host is unchanged.
 
-ghost use Rattle.std.specs.Prelude.{◌≡◌, ◌<◌, ◌≤◌, ◌+◌, ◌-◌, ◌^◌, [], true, min, is_some, IfOk, IfSome, OnErr, Err, None, Some, length, vec_len, vec_capacity};
+ghost use Rattle.std.specs.Prelude.{◌≡◌, ◌<◌, ◌≤◌, ◌+◌, ◌-◌, ◌^◌, [], true, min, is_some, IfOk, IfSome, OnErr, Err, Some, length, vec_len, vec_capacity};
 ghost use Rattle.sam_host.specs.Host.{Replies, Appends, told_found};
 ghost use Rattle.sam_runes.specs.Texts.{lines_before, most_in_pattern};
 ghost use Rattle.sam_text.specs.Files.{file_at};

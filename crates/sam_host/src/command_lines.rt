@@ -3,7 +3,7 @@
 //! all memory is had before the first change, and no change can fail. The functions `tell_..` add frames to those of the answer. The only
 //! error of a private function is `OutOfMemory`, and the host is then unchanged.
 
-ghost use Rattle.std.specs.Prelude.{◌≡◌, ◌==◌, ◌<◌, ◌≤◌, ◌+◌, ◌-◌, ◌∷◌, [], ◌^◌, IfOk, OnOk, OnErr, Err, None, Some, not, ◌&&◌, nat_lt, if◌then◌else◌, length};
+ghost use Rattle.std.specs.Prelude.{◌≡◌, ◌==◌, ◌<◌, ◌≤◌, ◌+◌, ◌-◌, ◌∷◌, [], ◌^◌, IfOk, OnOk, OnErr, Err, Some, not, ◌&&◌, nat_lt, if◌then◌else◌, length};
 ghost use Rattle.sam_host.specs.Typing.{typed, sent, typed_line, reply_typed_line, told_line, IsSameButEdits};
 ghost use Rattle.sam_host.specs.Host.{Replies, Appends, stamped, when, when_given, printed, told_edit, told_edits, told_outcome, line_to, reply_line};
 ghost use Rattle.sam_runes.specs.Texts.{max_runes, part, as_lines, last_line};

@@ -154,7 +154,8 @@ impl Host {
     fn run_of<'a>(&self, messages: &'a VecDeque<Tmesg>, tag: u16) -> Result<Run<'a>, AllocError>
         ensures room { IfOk result (λ run. self.now.taken + run.count < 2 ^ 64) }
         ensures count { IfOk result (λ run. run.count ≤ length messages.now.items) }
-        ensures tells { IfOk result (λ run. Tells self.now.files tag self.now.taken (take run.count messages.now.items) run.changes.items run.frames.items) }
+        ensures tells { IfOk result (λ run.
+            Tells self.now.files tag self.now.taken (take run.count messages.now.items) run.changes.items run.frames.items) }
     {
         let taken = self.taken;
         let mut count = 0;

@@ -1,7 +1,7 @@
 //! The answers to the version, to what makes, opens, chooses or closes a file, and to the end of the session. A method for a kind leaves
 //! the count of messages to its caller, and after an error the host is unchanged.
 
-ghost use Rattle.std.specs.Prelude.{◌≡◌, ◌<◌, ◌+◌, ◌++◌, ◌∷◌, [], ◌^◌, IfOk, OnOk, OnErr, Err, true, not, drop};
+ghost use Rattle.std.specs.Prelude.{◌≡◌, ◌<◌, ◌+◌, ◌++◌, ◌∷◌, [], ◌^◌, IfOk, OnOk, OnErr, Err, not, drop};
 ghost use Rattle.sam_host.specs.Host.{Replies, Appends, stamped, when, told_length, told_names, with_files, printed, no_tag_left};
 ghost use Rattle.sam_text.specs.Files.{file_at, after_print};
 

@@ -1,13 +1,12 @@
 //! The frames that several answers share. Each function adds its frames to those of the answer, stamped with the count that the message
 //! will have. The only error of each is `OutOfMemory`, and the caller then drops the frames.
 
-ghost use Rattle.std.specs.Prelude.{◌≡◌, ◌<◌, ◌≤◌, ◌+◌, ◌++◌, ◌∷◌, [], ◌^◌, OnOk, OnErr, Ok, Err, drop, length, vec_len, vec_capacity};
+ghost use Rattle.std.specs.Prelude.{◌≡◌, ◌<◌, ◌≤◌, ◌+◌, ◌++◌, ◌∷◌, [], ◌^◌, OnOk, OnErr, Ok, Err, length, vec_len, vec_capacity};
 ghost use Rattle.sam_host.specs.Host.{Appends, grown, told_dirty, told_length, printed, told_at};
 ghost use Rattle.sam_host.specs.Typing.{printed_at};
 ghost use Rattle.sam_runes.specs.Texts.{max_runes};
 ghost use Rattle.sam_runes.specs.Slots.{slot};
 ghost use Rattle.sam_text.specs.Files.{file_at};
-ghost use Rattle.sam_mesg.specs.declared.hmesg.HFrame.{HFrame};
 
 use crate::fault::HostFault;
 use crate::host::Host;

@@ -45,8 +45,8 @@ pub record HaveMoved (host_calls : List HostCall) (term_calls : List TermCall) (
   pub term_took_all : bytes_of (handed s.terminal_calls) ≡ flat_map came_down term_calls
 
 -- and a connection has carried all
-pub record HaveMovedAll (host_calls : List HostCall) (term_calls : List TermCall) (e : PlainHostEndpoint) (g : PlainTermEndpoint) (s : Session)
-    : Type 0 where
+pub record HaveMovedAll (host_calls : List HostCall) (term_calls : List TermCall) (e : PlainHostEndpoint) (g : PlainTermEndpoint)
+    (s : Session) : Type 0 where
   pub carried : IsAllCarried s
   pub moved : HaveMoved host_calls term_calls e g s
 

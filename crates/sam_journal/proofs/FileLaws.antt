@@ -3,7 +3,7 @@ use Rattle.std.proofs.Common.{◌≡◌, ◌⊎◌, inl, inr, ℕ, zero, suc, �
 use Rattle.std.proofs.Math.Seq.{drop-append_seam, take-append_seam}
 use Rattle.std.proofs.lemmas.Bool.{cases_lt}
 use Rattle.std.proofs.lemmas.List.{drop-take, take-append-le}
-use Rattle.sam_journal.specs.Files.{AreRecords, Front, IsHead, IsJournal, NamesMore, NamesNoMore, Reads, ReadsHead, Wholes, file_bytes, head, journal_bytes}
+use Rattle.sam_journal.specs.Files.{AreRecords, Front, IsHead, IsJournal, NamesMore, NamesNoMore, Reads, Wholes, file_bytes, head, journal_bytes}
 use Rattle.sam_journal.specs.Laws.{DamageIsTold, DurableIsKept, FrontsAreRead, Keeps, OneReading, RecordsAreRead}
 use Rattle.sam_journal.specs.Records.{Entry, Stands}
 use Rattle.sam_journal.specs.declared.reading.Journal.{Journal}
@@ -77,13 +77,6 @@ not_refused random bytes NotAJournal is of r = no_refusal random bytes NotAJourn
 not_refused random bytes OtherVersion is of r = no_refusal random bytes OtherVersion is r
 not_refused random bytes DamagedHead is of r = no_refusal random bytes DamagedHead is r
 not_refused random bytes (Damaged j) is of r = of
-
-of_head : (bytes : List ℕ) (why : ReadFault) → IsOfHead why → Reads bytes (Err why) → ReadsHead bytes (Err why)
-of_head bytes Short of r = r
-of_head bytes NotAJournal of r = r
-of_head bytes OtherVersion of r = r
-of_head bytes DamagedHead of r = r
-of_head bytes (Damaged j) of r = absurd of
 
 read_and_refused : (bytes : List ℕ) (a : Journal) (why : ReadFault) → Reads bytes (Ok a) → Reads bytes (Err why) → ⊥
 read_and_refused bytes a Short x y = not_refused a.random bytes Short (front_head a.random a.end x.0 bytes x.1.front) tt y

@@ -66,8 +66,8 @@ ReadsHead bytes (Err OtherVersion) = (24 ≤ length bytes) × (take 8 bytes ≡ 
 ReadsHead bytes (Err DamagedHead) = (24 ≤ length bytes) × (take 12 bytes ≡ magic ++ four 2) × ((random : ℕ) → IsHead bytes random → ⊥)
 ReadsHead bytes (Err (Damaged j)) = ⊥
 
--- The file is damaged if its whole records end before a place up to which a whole record, anywhere in it, says that it was durable. Else all
--- behind them is a torn end.
+-- The file is damaged if its whole records end before a place up to which a whole record, anywhere in it, says that it was durable. Else
+-- all behind them is a torn end.
 abbrev pub Reads : List ℕ → Result Journal ReadFault → Type 0
 Reads bytes (Ok j) = (es : List Entry) × Wholes j.random es bytes j.end × (j.count ≡ length es) × NamesNoMore j.random bytes j.end
 Reads bytes (Err (Damaged j)) = (es : List Entry) × Wholes j.random es bytes j.end × (j.count ≡ length es) × NamesMore j.random bytes j.end

@@ -17,8 +17,8 @@ OneList = (random : ℕ) (bytes : List ℕ) (end last : ℕ) (es fs : List Entry
 
 -- the records of a file are read
 abbrev pub RecordsAreRead : Type 0
-RecordsAreRead = (random : ℕ) (es : List Entry) (answer : Result Journal ReadFault) → IsJournal random es → Reads (file_bytes random es) answer
-    → answer ≡ Ok (record { random = random; count = length es; end = length (file_bytes random es) })
+RecordsAreRead = (random : ℕ) (es : List Entry) (answer : Result Journal ReadFault) → IsJournal random es
+    → Reads (file_bytes random es) answer → answer ≡ Ok (record { random = random; count = length es; end = length (file_bytes random es) })
 
 -- the answer is a journal that begins with these records, and what follows of it
 abbrev pub Keeps : ℕ → List Entry → List ℕ → Result Journal ReadFault → Type 0
@@ -37,7 +37,8 @@ FrontsAreRead = (random : ℕ) (es : List Entry) (durable n : ℕ) (answer : Res
     → length (file_bytes random (take durable es)) ≤ n → n ≤ length (file_bytes random es)
     → NamesNoMore random (take n (file_bytes random es)) (length (file_bytes random (take durable es)))
     → Reads (take n (file_bytes random es)) answer
-    → (count : ℕ) × (answer ≡ Ok (record { random = random; count = length (take count es); end = length (file_bytes random (take count es)) }))
+    → (count : ℕ)
+    × (answer ≡ Ok (record { random = random; count = length (take count es); end = length (file_bytes random (take count es)) }))
     × ((all : ℕ) → all ≤ length es → length (file_bytes random (take all es)) ≤ n → all ≤ count)
 
 -- if a record anywhere in the file says that so much was durable, and that is no front of a file of records, the file is refused as damaged

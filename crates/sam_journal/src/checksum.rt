@@ -1,7 +1,6 @@
 //! CRC-32C, a byte at a time.
 
 ghost use Rattle.std.specs.Prelude.{◌≡◌, ◌++◌};
-ghost use Rattle.std.specs.Int.Bits.{bit_xor};
 ghost use Rattle.sam_journal.specs.Checksums.{byte_step, bytes_step, crc_32c};
 ghost use Rattle.sam_journal.specs.Records.{eight};
 

@@ -1,6 +1,6 @@
 //! The record that stands at a place.
 
-ghost use Rattle.std.specs.Prelude.{◌≡◌, ◌+◌, ◌≤◌, ◌<◌, ◌++◌, ℕ, drop, length, take, MatchOption};
+ghost use Rattle.std.specs.Prelude.{◌≡◌, ◌+◌, ◌≤◌, ◌++◌, ℕ, drop, length, take, MatchOption};
 ghost use Rattle.sam_journal.specs.Records.{Entry, IsFound, Stands, eight, entry_of, four};
 
 use crate::checksum::{sum_of, sum_of_both};
@@ -75,7 +75,8 @@ pub fn eight_at(bytes: &[u8], at: usize) -> u64
 /// Returns the whole record that stands at this place in the file of this random number, whatever its number is. `None` if none does: the
 /// bytes end before it, or a sum is wrong, or it says that more was durable than stands before it.
 pub fn record_at(bytes: &[u8], place: usize, random: u64) -> Option<Record>
-    ensures { MatchOption result ((number : ℕ) (e : Entry) → Stands random bytes.now place number e → ⊥) (λ found. IsFound random bytes.now place found) }
+    ensures { MatchOption result ((number : ℕ) (e : Entry) → Stands random bytes.now place number e → ⊥)
+        (λ found. IsFound random bytes.now place found) }
 {
     if bytes.len() < place {
         return None;

@@ -7,8 +7,8 @@ use crate::checksum::crc_32c;
 use crate::finding::{eight_at, four_at, write_at};
 use crate::reading::ReadFault;
 
-/// How many bytes the head of a file has: a magic of eight, the version of the format in four, the file's random number in eight, and the sum
-/// of these in four.
+/// How many bytes the head of a file has: a magic of eight, the version of the format in four, the file's random number in eight, and the
+/// sum of these in four.
 pub const HEAD_BYTES: usize = 24;
 
 /// How many of them the sum is of.
@@ -35,8 +35,8 @@ pub fn head(random: u64) -> [u8; HEAD_BYTES]
     out
 }
 
-/// Reads the head at the front of a file's bytes, and returns the file's random number. Errors, in this order: `Short` if there are fewer than
-/// 24 bytes; `NotAJournal`; `OtherVersion`; `DamagedHead`.
+/// Reads the head at the front of a file's bytes, and returns the file's random number. Errors, in this order: `Short` if there are fewer
+/// than 24 bytes; `NotAJournal`; `OtherVersion`; `DamagedHead`.
 pub fn read_head(bytes: &[u8]) -> Result<u64, ReadFault>
     ensures { ReadsHead bytes.now result }
 {

@@ -19,8 +19,8 @@ pub fn fronts_are_read()
     ensures { FrontsAreRead }
 {}
 
-/// States that records which were durable are read, whatever stands behind them: a disk may have got the blocks behind them in any order, or
-/// not. What is read begins with them, and it is no damage, if no record in the file says that more was durable.
+/// States that records which were durable are read, whatever stands behind them: a disk may have got the blocks behind them in any order,
+/// or not. What is read begins with them, and it is no damage, if no record in the file says that more was durable.
 pub fn durable_is_kept()
     ensures { DurableIsKept }
 {}

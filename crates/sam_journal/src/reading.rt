@@ -50,8 +50,8 @@ pub enum Next {
     Torn,
 }
 
-/// Returns what stands at a place where the record of this number would, in the file of this random number. The first record has the number 0
-/// and stands behind the head; each other one stands where the one before it ends, 28 bytes and its body behind its place.
+/// Returns what stands at a place where the record of this number would, in the file of this random number. The first record has the number
+/// 0 and stands behind the head; each other one stands where the one before it ends, 28 bytes and its body behind its place.
 pub fn next_record(bytes: &[u8], place: usize, random: u64, number: u64) -> Next
     ensures { NextIs random bytes.now place number result }
 {
@@ -103,8 +103,8 @@ fn names_more(bytes: &[u8], random: u64, end: usize) -> bool
     false
 }
 
-/// Reads a whole file. Errors, in this order: those of [`read_head`]; `Damaged`. It takes time linear in the bytes, unless many places behind
-/// the end look like a whole heading with a right sum.
+/// Reads a whole file. Errors, in this order: those of [`read_head`]; `Damaged`. It takes time linear in the bytes, unless many places
+/// behind the end look like a whole heading with a right sum.
 pub fn read(bytes: &[u8]) -> Result<Journal, ReadFault>
     ensures { Reads bytes.now result }
 {

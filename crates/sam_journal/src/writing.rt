@@ -46,7 +46,8 @@ pub fn append(
     body: &[u8],
 ) -> Result<(), AllocError>
     requires { length body.now < 2 ^ 32 }
-    ensures written { IfOk result (λ done. out.new.items ≡ out.old.items ++ record_bytes random number (record { durable = durable; body = body.now })) }
+    ensures written { IfOk result (λ done.
+        out.new.items ≡ out.old.items ++ record_bytes random number (record { durable = durable; body = body.now })) }
     ensures unchanged { OnErr result (out.new.items ≡ out.old.items) }
 {
     let before = out.len();

@@ -3,7 +3,9 @@ pub mod AllLaws
 pub mod Carrying
 pub mod ClockLaws
 pub mod Greetings
+pub mod Growing
 pub mod LineLaws
+pub mod Owing
 pub mod Pieces
 pub mod SessionLaws
 pub mod Words

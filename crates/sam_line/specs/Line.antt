@@ -1,5 +1,5 @@
 -- The terminal's end of a link with the clock of its connections. Times are in milliseconds.
-use Rattle.std.specs.Prelude.{◌≡◌, ℕ, ◌+◌, List, [], length, nat_lt, nat_le, Bool, true, false, not, ◌&&◌, ◌||◌, ◌==◌, if◌then◌else◌, MatchBool, is_ok, Option, None, Result, Ok}
+use Rattle.std.specs.Prelude.{◌≡◌, ℕ, ◌+◌, ◌-◌, ◌^◌, List, [], length, min, nat_lt, nat_le, Bool, true, false, not, ◌&&◌, ◌||◌, ◌==◌, if◌then◌else◌, MatchBool, is_ok, Option, None, Result, Ok}
 use Rattle.sam_link.specs.Calls.{Does}
 use Rattle.sam_link.specs.Calls.Call.{Acknowledge, Ask, Dial, NextNote, Put, PutNote, TakeIn, TakeOut}
 use Rattle.sam_link.specs.End.{End, ended, fresh, is_up}
@@ -53,6 +53,14 @@ is_due l = is_unacknowledged l || l.expects
 -- all that was put is acknowledged
 abbrev pub has_all : Line → Bool
 has_all l = nat_le l.question.due l.link.keeps.base
+
+-- after so much silence the user is to know that an answer is overdue: a second, and two round trips
+abbrev pub overdue_after : Line → ℕ
+overdue_after l = min (2 ^ 64 - 1) ((l.question.round_trip + l.question.round_trip) + 1000)
+
+-- there is no connection, though there was one, or one has failed
+abbrev pub is_broken : Line → Bool
+is_broken l = not (clocks.is_welcome l.clock.state) && (l.link.is_known || nat_lt 0 l.clock.failures)
 
 -- the connection is the newest, and not over
 abbrev pub is_newest : Line → ℕ → Bool

@@ -1,8 +1,8 @@
 //! When a connection is to be tried, and when it is to be given up. Times are in milliseconds, of any clock.
 
-ghost use Rattle.std.specs.Prelude.{◌≡◌, ◌-◌, ◌==◌, not, ◌&&◌};
-ghost use Rattle.sam_line.specs.Clock.{after, at, begun, connecting, deadline, due_in, failed, failures_before, heard, is_final, is_open, is_over};
-ghost use Rattle.sam_line.specs.Clock.{is_welcome, late, left, lost, may_come_back, missing_after, missing_since, moved, moved_in, owed, pause};
+ghost use Rattle.std.specs.Prelude.{◌≡◌};
+ghost use Rattle.sam_line.specs.Clock.{at, begun, connecting, deadline, due_in, failed, failures_before, heard, is_final, is_open};
+ghost use Rattle.sam_line.specs.Clock.{is_welcome, late, left, may_come_back, missing_after, missing_since, moved, moved_in, owed, pause};
 ghost use Rattle.sam_line.specs.Clock.{quiet_from, refused, says, says_in, silence, sooner, welcomed};
 
 use sam_link::Refusal;
@@ -30,6 +30,9 @@ pub const RETRY_AFTER_MOVE: u64 = 1_000;
 
 /// The pauses begin anew after a connection that stood for so long.
 pub const STEADY_AFTER: u64 = 1_000;
+
+/// After so much silence, and two round trips, an answer is overdue: the user is to know.
+pub const OVERDUE_AFTER: u64 = 1_000;
 
 /// For so long a session that was there may come back, which the host does not find.
 pub const MISSING_FOR: u64 = 60_000;
@@ -110,7 +113,7 @@ impl Deadline {
 
 impl State {
     /// Returns whether a host has welcomed the newest connection, which is not over.
-    fn is_welcome(self) -> bool
+    pub(crate) fn is_welcome(self) -> bool
         ensures { result ≡ is_welcome self }
     {
         match self {

@@ -1,19 +1,15 @@
 //! The terminal's end of a link, with the clock of its connections.
 
-ghost use Rattle.std.specs.Prelude.{◌≡◌, ◌≤◌, ◌<◌, ◌+◌, ◌-◌, ◌&&◌, ◌==◌, not, length, nat_le, nat_lt, take, drop, IfOk, IfErr, is_ok};
-ghost use Rattle.sam_link.specs.Calls.{Does};
-ghost use Rattle.sam_link.specs.Calls.Call.{Acknowledge, Ask, Dial, Feed, NextNote, Put, PutNote, TakeIn, TakeOut};
-ghost use Rattle.sam_link.specs.Feeding.{is_open};
-ghost use Rattle.sam_link.specs.Hellos.{ReadsHello};
-ghost use Rattle.sam_link.specs.End.{ended, is_up};
+ghost use Rattle.std.specs.Prelude.{◌≡◌, ◌≤◌, length, take};
+ghost use Rattle.sam_link.specs.End.{is_up};
 ghost use Rattle.sam_line.specs.Clock as clocks;
 ghost use Rattle.sam_line.specs.Greeting.{IsBefore, IsFront};
 ghost use Rattle.sam_line.specs.Line.{Acknowledges, Asks, Connects, GivesNote, PutsBytes, PutsNote, TakesIn, TakesOut, Ticks};
-ghost use Rattle.sam_line.specs.Line.{asking, at, begun, broken, expecting, failed, has_all, is_connecting, is_due, is_late, is_newest, is_opening};
-ghost use Rattle.sam_line.specs.Line.{is_to_ask, is_unacknowledged, moved, not_connected, opened, owing, put_len, refused};
+ghost use Rattle.sam_line.specs.Line.{asking, at, begun, broken, expecting, failed, has_all, is_broken, is_due, is_newest, is_opening};
+ghost use Rattle.sam_line.specs.Line.{is_to_ask, is_unacknowledged, moved, not_connected, opened, overdue_after, owing, refused};
 ghost use Rattle.sam_line.specs.Receiving.{BeginsBy, Feeds, Greets, Meets, MeetsBy, Receives, failed_by, fed_fault, heard, welcomed};
 
-use crate::clock::{Clock, State, Tick};
+use crate::clock::{Clock, OVERDUE_AFTER, State, Tick};
 use crate::fault::ReceiveFault;
 use crate::greeting::Greeting;
 use crate::question::Question;
@@ -545,6 +541,23 @@ impl Line {
         ensures { result ≡ self.now.question.round_trip }
     {
         self.question.round_trip()
+    }
+
+    /// Returns after how many milliseconds of silence the user is to know that an answer is overdue: a second, and two round trips.
+    pub fn overdue_after(&self) -> u64
+        ensures { result ≡ overdue_after self.now }
+    {
+        let round_trip = self.question.round_trip();
+        round_trip
+            .saturating_add(round_trip)
+            .saturating_add(OVERDUE_AFTER)
+    }
+
+    /// Returns whether there is no connection, though there was one, or one has failed.
+    pub fn is_broken(&self) -> bool
+        ensures { result ≡ is_broken self.now }
+    {
+        !self.clock.state().is_welcome() && (self.link.is_known() || self.clock.failures() > 0)
     }
 
     /// Returns whether all that was put is acknowledged.

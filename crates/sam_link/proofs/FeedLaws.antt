@@ -4,14 +4,13 @@ use Rattle.std.specs.Prelude.{None, ◌||◌, if◌then◌else◌, nat_le}
 use Rattle.std.proofs.Math.Seq.{take-append_seam}
 use Rattle.sam_link.specs.End.{End, ended}
 use Rattle.sam_link.specs.Feeding.{Feeds, FeedsInto, FeedsPlaces, GoesOn, IsFault, MayFeed, TakesSplit, ended_for, fed_to, has_come, read_to, said_to, tells, told}
-use Rattle.sam_link.specs.Inbox.{Arrived, IsRow, TakesAll, TakesPlaces, Waiting, items_among, lying, nothing, ready}
+use Rattle.sam_link.specs.Inbox.{Arrived, TakesAll, TakesPlaces, Waiting, items_among, lying, nothing, ready}
 use Rattle.sam_link.specs.Keeping.{acknowledged}
 use Rattle.sam_link.specs.Packets.{EndsIn, IsRead, IsSplit, Packet, asks, top_of}
 use Rattle.sam_link.specs.declared.fault.FeedFault.{FeedFault}
 use Rattle.sam_link.specs.declared.fault.FeedFault.TheVariants.{NotOpen, CountFull, OutOfMemory, Wrong, AckAhead}
 use Rattle.sam_link.specs.declared.inbox.Marks.{Marks}
 use Rattle.sam_link.specs.declared.inbox.Place.{Place}
-use Rattle.sam_link.specs.declared.reading.Said.{Said}
 use Rattle.sam_link.specs.declared.reading.Split.{Split}
 use Rattle.sam_link.proofs.Rows.{items_is}
 
@@ -23,9 +22,6 @@ lets len n = record n { held = take len n.held }
 
 back : (e n : End) (piece : List ℕ) → n ≡ holds e piece → lets (length e.held) n ≡ e
 back e n piece is = ap (lets (length e.held)) is ∙ ap (λ held. record e { held = held }) (take-append_seam e.held piece)
-
-pub row_read : (bytes : List ℕ) (count len : ℕ) (said : Said) → IsRead bytes count len said → IsRow bytes count len
-row_read bytes count len said r = record { ps = r.ps; front = r.front; count_is = r.count_is }
 
 abbrev fed_with : End → Bool → ℕ → List Packet → List ℕ → ℕ → End
 fed_with e owes top items held count =

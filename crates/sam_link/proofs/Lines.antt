@@ -36,11 +36,6 @@ line_longer stream given read more start came l =
       inside = omega (arith, l.inside, (length-append stream more));
     }
 
-pub line_given : (stream given read more : List ℕ) (start came : ℕ) → Line stream given read start came → StartsWith (drop start stream) (given ++ more)
-    → Line stream (given ++ more) read start came
-line_given stream given read more start came l goes =
-    record { goes = goes; reads = longer given more read l.reads; count = l.count; inside = l.inside }
-
 pub line_read : (stream given read piece : List ℕ) (start came : ℕ) → Line stream given read start came → StartsWith given (read ++ piece)
     → Line stream given (read ++ piece) start (came + length piece)
 line_read stream given read piece start came l reads =
@@ -59,9 +54,6 @@ comes_next stream given read piece came start received l reads front long =
     let behind : front.rest ≡ piece ++ (reads.rest ++ l.goes.rest) =
     sym (drop-append_seam came front.rest) ∙ ap (λ b. drop (length came) b) (sym front.is) ∙ there in
     record { rest = reads.rest ++ l.goes.rest; is = front.is ∙ ap (λ b. came ++ b) behind ∙ sym (append_assoc came piece (reads.rest ++ l.goes.rest)) }
-
-pub hello_long : (h : Hello) → length (spelled h) ≡ 42
-hello_long h = refl
 
 -- a connection begins with one hello
 pub same_hello : (x g : Hello) (went ahead tail : List ℕ) → IsHello x → IsHello g → StartsWith went (spelled x) → went ++ ahead ≡ spelled g ++ tail → x ≡ g

@@ -118,9 +118,6 @@ put_by_answer e n cs ps qs bytes (Ok done) o d is =
 put_by_answer e n cs ps qs bytes (Err puts.CountFull) o d is = refused e n cs (Put bytes (Err puts.CountFull)) ps qs o (λ m. refl) (λ m. refl) refl refl (kept_same e n d.1 is)
 put_by_answer e n cs ps qs bytes (Err puts.OutOfMemory) o d is = refused e n cs (Put bytes (Err puts.OutOfMemory)) ps qs o (λ m. refl) (λ m. refl) refl refl (kept_same e n d.1 is)
 
-one_packet : (p : Packet) (bytes : List ℕ) → bytes ≡ stream_of packets (p ∷ []) → stream_of packets (p ∷ []) ≡ bytes
-one_packet p bytes e = sym e
-
 note_by_answer : (e n : End) (cs : List Call) (ps qs : List Packet) (bytes : List ℕ) (answer : Result (Unit {0}) NoteFault) → Own e cs ps qs
     → PutsNote e.keeps bytes answer n.keeps → n ≡ record e { keeps = n.keeps } → Stepped e n cs (PutNote bytes answer) ps qs
 note_by_answer e n cs ps qs bytes (Ok done) o d is =

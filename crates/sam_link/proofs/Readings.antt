@@ -1,5 +1,5 @@
 -- Packets that are read one after another.
-use Rattle.std.proofs.Common.{◌≡◌, ℕ, ◌+◌, List, [], ◌∷◌, ◌++◌, false, drop, refl, arith, length-append}
+use Rattle.std.proofs.Common.{◌≡◌, ℕ, ◌+◌, List, [], ◌∷◌, ◌++◌, drop, refl, arith, length-append}
 use Rattle.std.specs.Prelude.{max, ◌||◌}
 use Rattle.sam_frame.proofs.Fronts.{Front-more}
 use Rattle.sam_link.specs.Packets.{IsRead, Packet, StandsFirst, asks, packets}
@@ -9,17 +9,6 @@ use Rattle.sam_link.proofs.Packing.{top_more}
 asks_more : (ps : List Packet) (p : Packet) → asks (ps ++ p ∷ []) ≡ (asks ps || asks (p ∷ []))
 asks_more [] p = refl
 asks_more (q ∷ ps) p = grind (arith, (asks_more ps p))
-
-pub none_read : (bytes : List ℕ) (said : Said) → said.top ≡ 0 → said.asked ≡ false → IsRead bytes 0 0 said
-none_read bytes said top asked =
-    record {
-      ps = [];
-      front = record { splits = record { whole = refl; fit = tt }; version_is = refl; len_is = refl; inside = omega arith };
-      count_is = refl;
-      fewer = omega arith;
-      top_is = top;
-      asked_is = asked;
-    }
 
 -- one packet more
 pub read_more : (bytes : List ℕ) (count len more : ℕ) (said next all : Said) → IsRead bytes count len said → StandsFirst (drop len bytes) next more

@@ -195,11 +195,6 @@ which Down n e = absurd (true≢false (sym e))
 which Asking n e = elim (eqb_tells n 1) [ inl one ↦ inl one.0 | inr other ↦ inr (refl, other.1, other.0) ]
 which Open n e = inl refl
 
-asks_so : (p : Phase) → is_up p ≡ true → (is_open p ≡ true → ⊥) → is_asking p ≡ true
-asks_so Down e shut = absurd (true≢false (sym e))
-asks_so Asking e shut = refl
-asks_so Open e shut = absurd (shut refl)
-
 silent : (p : Phase) (n : ℕ) → is_asking p ≡ true → n ≢ 1 → may_send p n ≡ false
 silent Down n e other = refl
 silent Asking n e other = grind (arith, other)

@@ -145,7 +145,10 @@ pub record IsInbox (bytes : List ℕ) (gone next whole count : ℕ) : Type 0 whe
 
 abbrev pub arrived : List ℕ → ℕ → ℕ → ℕ → ℕ → Arrived
 arrived bytes gone next whole count =
-    record { held = drop whole bytes; waiting = record { part = take (next - gone) (drop gone bytes); packets = items_among count (drop next bytes) } }
+    record {
+      held = drop whole bytes;
+      waiting = record { part = take (next - gone) (drop gone bytes); packets = items_among count (drop next bytes) };
+    }
 
 abbrev pub nothing : Arrived
 nothing = record { held = []; waiting = record { part = []; packets = [] } }

@@ -211,7 +211,8 @@ impl Marks {
         requires lies { LiesIn self.old bytes.now }
         requires inside { at ≤ length into.old }
         ensures lies { LiesIn self.new bytes.now }
-        ensures taken { TakesIn (lying self.old bytes.now).waiting (drop at into.old) result (drop at into.new) (lying self.new bytes.now).waiting }
+        ensures taken { TakesIn (lying self.old bytes.now).waiting (drop at into.old) result (drop at into.new)
+            (lying self.new bytes.now).waiting }
         ensures held { (lying self.new bytes.now).held ≡ (lying self.old bytes.now).held }
         ensures front { take at into.new ≡ take at into.old }
     {
@@ -273,7 +274,8 @@ impl Marks {
         ensures lies { LiesIn self.new bytes.now }
         ensures inside { result ≤ length places.old }
         ensures rest { places.new ≡ take result places.new ++ drop result places.old }
-        ensures taken { TakesPlaces bytes.now (lying self.old bytes.now).waiting (take result places.new) (lying self.new bytes.now).waiting }
+        ensures taken { TakesPlaces bytes.now (lying self.old bytes.now).waiting (take result places.new)
+            (lying self.new bytes.now).waiting }
         ensures held { (lying self.new bytes.now).held ≡ (lying self.old bytes.now).held }
         ensures end { (result ≡ length places.old) ⊎ ((ready (lying self.new bytes.now).waiting).part ≡ []) }
     {

@@ -360,9 +360,9 @@ impl Link {
         }
     }
 
-    /// Takes the next piece as `feed` does, and then moves bytes into the buffer as `take_in` does, again and again, until there is no room,
-    /// or a note is next, or nothing. Returns how many bytes it moved. The rest of the buffer stays as it was. In the laws of two ends it is
-    /// those calls. Where nothing is left of the pieces before, the bytes go straight from the piece into the buffer.
+    /// Takes the next piece as `feed` does, and then moves bytes into the buffer as `take_in` does, again and again, until there is no
+    /// room, or a note is next, or nothing. Returns how many bytes it moved. The rest of the buffer stays as it was. In the laws of two
+    /// ends it is those calls. Where nothing is left of the pieces before, the bytes go straight from the piece into the buffer.
     ///
     /// The errors are those of `feed`, and leave what it leaves, and the buffer as it was.
     pub fn feed_into(

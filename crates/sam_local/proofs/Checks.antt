@@ -64,16 +64,8 @@ knows (lens c e n Unknown) = false
 knows (lens c e n Known) = true
 knows (lens c e n (Open r k)) = true
 
-abbrev opens : Lens → Bool
-opens (lens c e n Unknown) = false
-opens (lens c e n Known) = false
-opens (lens c e n (Open r k)) = true
-
 knows-is : (t : PlainTerminal) (f : ℕ) → is_known t f ≡ knows (view f t)
 knows-is t f = grind arith
-
-opens-is : (t : PlainTerminal) (f : ℕ) → is_open t f ≡ opens (view f t)
-opens-is t f = grind arith
 
 pub knows-alike : (t u : PlainTerminal) (f : ℕ) → sight t ≡ sight u → is_known t f ≡ is_known u f
 knows-alike t u f e = sym (seen t) ∙ ap (λ (x : PlainTerminal). is_known x f) e ∙ seen u

@@ -3,7 +3,9 @@ use Rattle.sam_crossing.proofs.Common.{◌≡◌, ℕ, zero, suc, ◌≤◌, Boo
 unfoldable use Rattle.sam_host.proofs.EachFrame.{replies_opened}
 use Rattle.sam_host.specs.Marking.{marked}
 use Rattle.sam_crossing.specs.Fold.{replied}
-use Rattle.sam_crossing.proofs.Dirt.{Fewer, IsDirt, Replies, dirty_files, dirty_slots, file-dirt, has-dirt, marks_after, reply_of-dirt, replies-fewer, with_dirt}
+use Rattle.sam_crossing.proofs.DirtyFiles.{Fewer, IsDirt, dirty_files, dirty_slots, file-dirt, has-dirt, with_dirt}
+use Rattle.sam_crossing.proofs.DirtyReplies.{marks_after}
+use Rattle.sam_crossing.proofs.Dirt.{Replies, reply_of-dirt, replies-fewer}
 use Rattle.sam_crossing.proofs.Folds.{Answered as After, answered}
 use Rattle.sam_crossing.proofs.Known.{IsShown, NoLoss, loses, losses, never_lost, shown_kept, undoes}
 use Rattle.sam_local.specs.Local.{PlainEditor, all_taken, at_rest, clean_known, whole_file}

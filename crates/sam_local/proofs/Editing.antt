@@ -1,5 +1,5 @@
 -- What each event does to the editor without a network: typing and cuts, and what one message does.
-use Rattle.sam_crossing.proofs.Common.{◌≡◌, ℕ, zero, suc, ◌+◌, ◌-◌, ◌≤◌, Bool, true, false, not, ◌==◌, ◌&&◌, ◌||◌, if◌then◌else◌, List, [], ◌∷◌, ◌++◌, length, take, drop, Option, Some, None, is_some, unwrap_or, refl, sym, ap, ◌∙◌, subst, true≢false, arith, not-false, eqb-true, append-nil, take-append-drop, length-take-le, length-map, Slots, slot, put_slot, free_slot, slot-free_other, part, ins, del, PlainFile, blank_file, file_at, put_file, cut_file, typed_file, Tworkfile, Ttype, Tcut, Tsnarf, Twrite, Tclose, Tsetsnarf, Texit, Hunlockfile, Hexit, eq-eqb, PlainHost, Reply, counted, reply_to, with_file, with_files, reply_type, reply_cut, reply_snarf, reply_setsnarf, reply_write, reply_close, reply_workfile, reply_exit, Window, KnownFile, UserEvent, PlainTerminal, known_at, window_at, is_open, put_known, effect, took_close, took_exit, event_outcome, place_after_ins, place_after_del, InOrder}
+use Rattle.sam_crossing.proofs.Common.{◌≡◌, ℕ, zero, suc, ◌+◌, ◌-◌, ◌≤◌, Bool, true, false, not, ◌==◌, ◌&&◌, ◌||◌, if◌then◌else◌, List, [], ◌∷◌, ◌++◌, length, take, drop, Option, Some, None, is_some, unwrap_or, refl, sym, ap, ◌∙◌, subst, true≢false, arith, not-false, eqb-true, append-nil, length-take-le, length-map, Slots, slot, put_slot, free_slot, slot-free_other, part, ins, del, PlainFile, blank_file, file_at, put_file, cut_file, typed_file, Tworkfile, Ttype, Tcut, Tsnarf, Twrite, Tclose, Tsetsnarf, Texit, Hunlockfile, Hexit, eq-eqb, PlainHost, Reply, counted, reply_to, with_file, with_files, reply_type, reply_cut, reply_snarf, reply_setsnarf, reply_write, reply_close, reply_workfile, reply_exit, Window, KnownFile, UserEvent, PlainTerminal, known_at, window_at, is_open, put_known, effect, took_close, took_exit, event_outcome, place_after_ins, place_after_del, InOrder}
 use Rattle.sam_runes.specs.Texts.{is_empty}
 use Rattle.sam_text.specs.Files.{is_changed, with_work, without_file, written_file}
 use Rattle.std.proofs.Math.Seq.{take-append_seam, drop-append_seam}
@@ -36,10 +36,6 @@ pub type-plain : (h : PlainHost) (f p : ℕ) (s : List ℕ) → is_command_line 
     → reply_to h (Ttype f p s) ≡ (with_file h f (typed_file f (file_at h.files f) p s), [])
 unfolding reply_type
 type-plain h f p s plain = rw plain refl
-
-pub replaced-none : (t : List ℕ) (p q : ℕ) → (p == q) ≡ true → t ≡ replaced t (p, q) []
-replaced-none t p q e =
-    sym (take-append-drop p t) ∙ ap (λ (xs : List ℕ). xs ++ drop p t) (sym (append-nil (take p t))) ∙ ap (λ (n : ℕ). (take p t ++ []) ++ drop n t) (eqb-true p q e)
 
 pub replaced-cut : (t : List ℕ) (p q : ℕ) → del t p q ≡ replaced t (p, q) []
 replaced-cut t p q = ap (λ (xs : List ℕ). xs ++ drop q t) (sym (append-nil (take p t)))

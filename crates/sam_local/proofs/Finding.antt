@@ -162,9 +162,6 @@ module _ (h : PlainHost) (t : PlainTerminal) (o : InOrder (rest h) (at_rest h t)
       kept-both h t (all_taken y (told_paste fs f p snarf)) f x pasted_here (paste-seen fs opened told)
       ∙ ap (λ (x : PlainFile). with_known (with_host_file editor f x) f pasted_here) e
 
-  abbrev TooLong : List ℕ → ℕ → Bool
-  TooLong s n = is_empty s || nat_lt max_runes n
-
   -- the length of the text, where the dot is empty, and of the text without the dot
   size-alone : is_open term f ≡ true → (p == q) ≡ true → length (replaced text w.dot snarf) ≡ length text + length snarf
   size-alone opened x =

@@ -11,7 +11,7 @@ use Rattle.sam_crossing.specs.Joining.{with_more}
 use Rattle.sam_crossing.specs.View.{slot_of}
 use Rattle.sam_crossing.proofs.Guards.{at_file-append}
 use Rattle.sam_crossing.proofs.MoreFiles.{split}
-use Rattle.sam_crossing.proofs.Dirt.{dirtied, dirty_slots, file-dirt, or-true, with_dirt}
+use Rattle.sam_crossing.proofs.DirtyFiles.{dirtied, dirty_slots, file-dirt, or-true, with_dirt}
 use Rattle.sam_crossing.proofs.Known.{IsShown, is_unknown, known_then}
 use Rattle.sam_crossing.proofs.Marking.{marked-is, only_at, shown-more}
 use Rattle.sam_local.specs.Local.{AreMarkedAlike, IsButDirty, Joined, PlainEditor, all_taken, at_rest, carried, carried_unless, answered_with, clean_file, clean_known, come_to, done_on}

@@ -13,7 +13,7 @@ use Rattle.sam_crossing.proofs.Lenses.{IsFree}
 use Rattle.sam_crossing.proofs.OrderLaws.{joins_step, starts_in_order}
 use Rattle.sam_local.specs.Local.{PlainEditor, AreMarkedAlike, clean_known, whole_file, whole_window, without_marks, Doing, Did, Joined, at_rest, answered_with, carried, carried_on, carried_all, carried_through, done_on, events_in, files_in, new_editor}
 use Rattle.sam_local.specs.Worlds.{outlook, Order, in_order, order_after, order_on, doings_of, is_among, unwritten, unwritten_after, unwritten_on, IsWhereDone, ShowsFile, RefusesAs, IsAsIfLocal, EndsAsIfLocal, ShowsAsIfLocal, WasAsIfLocal, RunsComeInOrder, RunsAreAsIfLocal, RestIsAsIfLocal, OneRestForAll, AloneInOrder}
-use Rattle.sam_crossing.proofs.Dirt.{file-dirt}
+use Rattle.sam_crossing.proofs.DirtyFiles.{file-dirt}
 use Rattle.sam_local.proofs.Gentle.{counted_in, counted-changed, counted-name}
 use Rattle.sam_local.proofs.Marked.{Differs, alike-same, but-dirty, marked-alike}
 use Rattle.sam_local.proofs.Dirtied.{EditorsAlike, alike-none}

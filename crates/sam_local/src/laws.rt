@@ -14,9 +14,9 @@ ghost use Rattle.sam_local.specs.Editing.{RefusedDoesNothing, TypingReplaces, Se
 /// is not locked is shown as that editor has it: its name, its marks, its dot and its view, and its runes as far as they are loaded.
 /// Whatever the user does next waits, or it is refused where that editor refuses it, and for the same reason.
 ///
-/// That editor knows no marks of a program. So a file that was marked in the run may be dirty though it is clean there: then the host has it
-/// so, and the terminal says so. That ends once a write or a close of the file acts. It is not said whether a mark stands that came while
-/// a write was on its way. All else is as there.
+/// That editor knows no marks of a program. So a file that was marked in the run may be dirty though it is clean there: then the host has
+/// it so, and the terminal says so. That ends once a write or a close of the file acts. It is not said whether a mark stands that came
+/// while a write was on its way. All else is as there.
 ///
 /// At rest, where nothing is unsent, under way or held, both sides are where all doings of the run lead that editor, but for runes that
 /// are not loaded and for counts of messages: the texts, names, marks, saved copies, dots, snarf buffer, pattern, work file, version and

@@ -1,6 +1,6 @@
 -- What the proofs of this crate cite most from its definitions and from the crates below.
 pub use Rattle.std.proofs.Common.{Bool, Err, IsUtf8, List, None, Ok, Option, Result, Some, [], ap, append_assoc, arith, chars, cond, drop, drop-set-lt, drop_at, encode_utf8_all, false, get_or, get_or-drop, get_or-take, inl, inr, le-ltb, leb-true, length, length-append, length-set, length-take, lt-ltb, ltb, ltb-false, nat_le, option_and_then, option_map, refl, rules, set, slice_get, subst, suc, sym, take, take-append-drop, take_at, true, w16, w32, w64, zero, ℕ, ◌&&◌, ◌*◌, ◌++◌, ◌+◌, ◌-◌, ◌<◌, ◌^◌, ◌↔◌, ◌∙◌, ◌∷◌, ◌≡◌, ◌≢◌, ◌≤◌, ◌⊎◌}
-pub use Rattle.std.proofs.lemmas.Bool.{cases_lt, false≢true}
+pub use Rattle.std.proofs.lemmas.Bool.{cases_lt}
 pub use Rattle.std.proofs.lemmas.List.{get_or_past, nil_from_length, set_split, take_more_set}
 pub use Rattle.std.proofs.lemmas.Str.{IsUtf8-from_is_utf8, chars-encodes, encodes-chars, is_utf8-from_IsUtf8, length-encode, scalars-chars}
 pub use Rattle.std.specs.Int.{Width, byte_len, from_be_bytes, to_be_bytes}
@@ -11,7 +11,7 @@ pub use Rattle.sam_mesg.specs.Reading.{Fails, Reads, count_at, end_at, made, nam
 unfoldable pub use Rattle.sam_mesg.specs.Reading.{number_at, text_at}
 pub use Rattle.sam_mesg.specs.Spelling.{eight, four, frame, text, two}
 pub use Rattle.sam_mesg.specs.TerminalKinds.{DecodesT, FitsT, IsTmesg, ShowsT, SpellsT, body_t, bounds_t, fits_t, frame_t, header_t, kind_t, read_t, readers_t}
-pub use Rattle.sam_mesg.specs.declared.fault.Header.TheVariants.{Length, Need}
+pub use Rattle.sam_mesg.specs.declared.fault.Header.TheVariants.{Length}
 pub use Rattle.sam_mesg.specs.declared.fault.MesgFault.{MesgFault}
 pub use Rattle.sam_mesg.specs.declared.fault.MesgFault.TheVariants.{BadKind, BadLength, BadText, OutOfMemory}
 pub use Rattle.sam_mesg.specs.declared.field.End.{End}

@@ -1,7 +1,6 @@
 -- Where the program stands between two pieces.
 use Rattle.sam_modes.proofs.Common.{◌≡◌, ◌∙◌, ℕ, ◌+◌, ◌-◌, ◌≤◌, List, [], ◌∷◌, ◌++◌, length, take, Option, None, Some, IfSome, IfErr, OnOk, Result, Ok, Err, inl, inr, refl, sym, ap, subst, append_assoc, append-nil, length-append, arith, Appends, Consumes, IsAtEnd, Appends-nil, Appends-trans, Consumes-nil, Consumes-trans, Consumes-whole, Tmesg, terminal, version_after, PlainHost, HostFault, Answer, answer, Served, served_on, serve, after_output, Stops, stop_at, Plays, Written, OnSide, Answers, StopsAt, MayEnd, of_host_stop, Stop, Frame, PlayFault}
 use Rattle.sam_frame.specs.Direction.{host}
-use Rattle.sam_frame.specs.Framing.{HasRoom}
 use Rattle.sam_frame.specs.Splitting.{Ends}
 use Rattle.sam_frame.specs.Stream.{stream_of}
 use Rattle.sam_frame.proofs.Cuttings.{Splits-longer, Shows-longer}
@@ -39,11 +38,6 @@ begins h first before e is = subst (λ (x : PlainHostEndpoint). Progress h first
   written = Appends-nil before;
   sent = refl;
 })
-
--- a piece can be counted
-pub has_room : (h : PlainHost) (piece : List ℕ) (first now before after : Option (List ℕ)) (e : PlainHostEndpoint) (left : ℕ)
-    → Progress h first now before after e left → length piece ≤ 4096 → HasRoom e.framer piece
-has_room h piece first now before after e left p most = let place = p.kept.place in let count = p.count in grind arith
 
 module _ {W : Type 0} (contents : W → Option (List ℕ)) where
   -- one more piece was read and answered

@@ -4,11 +4,9 @@ use Rattle.std.specs.Io.KnownBytes.{Appends}
 use Rattle.sam_mesg.specs.declared.tmesg.Tmesg.{Tmesg}
 use Rattle.sam_mesg.specs.Faults.{mesg_fault_number}
 use Rattle.sam_mesg.specs.declared.fault.MesgFault.{MesgFault}
-use Rattle.sam_mesg.specs.declared.fault.MesgFault.TheVariants as wrong
 use Rattle.sam_host.specs.Host.{PlainHost}
 use Rattle.sam_host.specs.Faults.{host_fault_number}
 use Rattle.sam_host.specs.declared.fault.HostFault.{HostFault}
-use Rattle.sam_host.specs.declared.fault.HostFault.TheVariants as refusal
 use Rattle.sam_frame.specs.Direction.{terminal}
 use Rattle.sam_frame.specs.Stream.{Splits, version_after}
 use Rattle.sam_frame.specs.Splitting.{Ends}

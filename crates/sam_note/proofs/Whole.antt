@@ -1,5 +1,5 @@
 -- A message is read from its bytes, and from no others.
-use Rattle.std.proofs.Common.{◌≡◌, ℕ, ◌-◌, ◌<◌, ◌≤◌, List, [], ◌∷◌, ◌++◌, length, drop, slice_get, nat_lt, if◌then◌else◌, Option, Some, None, refl, sym, ap, subst, ◌∙◌, arith, append_assoc, append-nil, option_and_then, option_map, suc}
+use Rattle.std.proofs.Common.{◌≡◌, ℕ, ◌-◌, ◌≤◌, List, [], ◌∷◌, ◌++◌, length, drop, slice_get, nat_lt, if◌then◌else◌, Option, Some, None, refl, sym, ap, subst, ◌∙◌, arith, append_assoc, append-nil, option_and_then, option_map, suc}
 use Rattle.std.proofs.lemmas.List.{nil_from_length}
 use Rattle.sam_mesg.proofs.Exact.{IsBytes, bind_some, map_some, some_is}
 use Rattle.sam_note.specs.declared.kind.Fields.{Fields}
@@ -30,9 +30,6 @@ kind_at n = if nat_lt n 65 then slice_get terminal_kinds (n - 1) else slice_get 
 kind_again : (kind : NoteKind) → kind_at (number kind) ≡ Some kind
 kind_again Open = refl
 kind_again _ = refl
-
-some_kind : (a b : NoteKind) → Some a ≡ Some b → a ≡ b
-some_kind a b e = some_is a b e
 
 pub one_kind : (a b : NoteKind) → number a ≡ number b → a ≡ b
 one_kind a b e = some_is a b (sym (kind_again a) ∙ ap kind_at e ∙ kind_again b)
@@ -96,9 +93,6 @@ takes kind bytes m fits e short =
 same_tail : (a b : ℕ) (xs ys : List ℕ) → a ∷ xs ≡ b ∷ ys → (a ≡ b) × (xs ≡ ys)
 same_tail a b xs ys e = grind arith
 
-head_of : Message → Head
-head_of m = record { kind = m.kind; request = m.request; tag = m.tag; code = m.code; number = m.number }
-
 shorts : (m : Message) (bytes : List ℕ) → Spells m bytes → IsShort m.path × IsShort m.copy × IsShort m.text
 shorts m bytes is =
     let h : Head = record { kind = m.kind; request = m.request; tag = m.tag; code = m.code; number = m.number } in
@@ -152,14 +146,8 @@ shapeless bytes rest first kind m e is read spells =
     let both : None ≡ Some m = sym read ∙ ap (λ k. message_at k rest) (sym same) ∙ found.1 in
     absurd cc
 
-pub too_long : (bytes : List ℕ) (m : Message) → most_bytes < length bytes → Spells m bytes → ⊥
-too_long bytes m long spells = absurd (omega (arith, long, spells.within))
-
 pub has_kind : (bytes rest : List ℕ) (first : ℕ) (kind : NoteKind) → bytes ≡ first ∷ rest → number kind ≡ first → HasNoKind bytes → ⊥
 has_kind bytes rest first kind e is none = subst HasNoKind e none kind is
-
-pub no_bytes : (bytes : List ℕ) (m : Message) → bytes ≡ [] → Spells m bytes → ⊥
-no_bytes bytes m e spells = let both : number m.kind ∷ _ ≡ [] = spells.bytes_are ∙ e in absurd cc
 
 pub begins : (bytes : List ℕ) (first : ℕ) → slice_get bytes 0 ≡ Some first → bytes ≡ first ∷ drop 1 bytes
 begins [] first e = absurd cc

@@ -1,6 +1,6 @@
 //! How a message is read from bytes.
 
-ghost use Rattle.std.specs.Prelude.{◌≡◌, ◌≤◌, ◌<◌, ◌+◌, ℕ, List, [], length, take, drop, IfSome, OnSome};
+ghost use Rattle.std.specs.Prelude.{◌≡◌, ◌≤◌, [], length, drop, IfSome};
 ghost use Rattle.std.specs.Int.{from_be_bytes, w8, w16, w32, w64};
 ghost use Rattle.sam_note.specs.Kinds.{has};
 ghost use Rattle.sam_note.specs.Calls.{IsWithin, Reads, Shapes, at_place, message_in};

@@ -1,9 +1,9 @@
 //! How a message is written as bytes.
 
-ghost use Rattle.std.specs.Prelude.{◌≡◌, ◌≤◌, ◌<◌, ◌+◌, ◌++◌, ◌^◌, ℕ, List, length, take, drop, IsTrue, ◌↔◌};
+ghost use Rattle.std.specs.Prelude.{◌≡◌, ◌≤◌, ◌<◌, ◌+◌, ◌++◌, ◌^◌, length, take, drop, IsTrue, ◌↔◌};
 ghost use Rattle.sam_note.specs.Calls.{Refuses, Writes, message};
 ghost use Rattle.sam_note.specs.Kinds.{has};
-ghost use Rattle.sam_note.specs.Messages.{IsPlain, spelled, piece};
+ghost use Rattle.sam_note.specs.Messages.{piece};
 ghost use Rattle.sam_note.specs.Writing.{Puts, fixed, has_only, head_bytes, note_bytes, part, wide};
 
 use crate::fault::NoteFault;

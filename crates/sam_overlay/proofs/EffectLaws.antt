@@ -13,7 +13,7 @@ use Rattle.sam_runes.specs.Slots.{free_slot}
 use Rattle.sam_runes.proofs.SlotLaws.{slot-free_same, slot-free_other, slot-map}
 use Rattle.sam_rasp.specs.Rasp.{ins_cells, del_cells, load_cells}
 use Rattle.sam_term.specs.Term.{PlainTerminal, frame_checks, frame_outcome, known_at, put_known, rasp_at, sends, unchanged, window_at}
-unfoldable use Rattle.sam_term.specs.Term.{requested, take_of, took_bindname, took_close, took_cut, took_data, took_exit, took_grow, took_growdata, took_unlockfile}
+unfoldable use Rattle.sam_term.specs.Term.{take_of, took_bindname, took_close, took_cut, took_data, took_exit, took_grow, took_growdata, took_unlockfile}
 use Rattle.sam_term.specs.Windows.{blank_known, blank_window}
 use Rattle.sam_term.specs.declared.records.KnownFile.{KnownFile}
 use Rattle.sam_term.proofs.TermLaws.{known-put, rasp-stays, rasp-change, rasp-sends, rasp-requested}

@@ -1,5 +1,5 @@
 -- The first place of the shown text that is not loaded.
-use Rattle.std.proofs.Common.{Option, ◌≡◌, refl, sym, ap, ◌∙◌, subst, ℕ, ◌+◌, ◌-◌, ◌≤◌, ◌<◌, List, [], ◌∷◌, ◌++◌, length, map, take, drop, Some, None, arith, option_map, length-take, length-take-le, length-drop, take-append-drop, drop-drop}
+use Rattle.std.proofs.Common.{Option, ◌≡◌, refl, sym, ap, ◌∙◌, ℕ, ◌+◌, ◌-◌, ◌≤◌, ◌<◌, List, [], ◌∷◌, ◌++◌, length, map, take, drop, Some, None, arith, option_map, length-take, length-take-le, length-drop, take-append-drop, drop-drop}
 use Rattle.sam_rasp.specs.Rasp.{first_gaps, hole_within, range_from}
 use Rattle.sam_pending.specs.Cells.{PartialText, resting, shown_of}
 use Rattle.sam_pending.proofs.CellLaws.{shown_resting}

@@ -5,11 +5,10 @@ use Rattle.std.specs.List.{filter}
 use Rattle.std.proofs.Math.Seq.{take-append-add}
 use Rattle.std.proofs.lemmas.Bool.Decides.{nat_tests}
 use Rattle.std.proofs.lemmas.List.{drop-take, take-append-le}
-use Rattle.sam_runes.specs.Slots.{Slots, slot}
+use Rattle.sam_runes.specs.Slots.{slot}
 use Rattle.sam_mesg.specs.declared.hmesg.HFrame.{HFrame}
 use Rattle.sam_rasp.specs.Rasp.{place_after_ins}
-use Rattle.sam_pending.specs.Cells.{Cell, PartialText, drop_by, in_rasp, inserted, place_at, rasp_of, resting, stands_at, take_by, text_at}
-use Rattle.sam_pending.specs.Groups.{place_after_removal}
+use Rattle.sam_pending.specs.Cells.{Cell, PartialText, drop_by, in_rasp, place_at, rasp_of, resting, stands_at, take_by, text_at}
 use Rattle.sam_pending.specs.Layers.{Layer, IsOver, cells_over, rasp_length, runs_of}
 use Rattle.sam_pending.specs.Runs.{lost_in}
 use Rattle.sam_pending.proofs.CellLaws.{members-append, take-drop-by}

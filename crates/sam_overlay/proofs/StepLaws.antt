@@ -613,12 +613,6 @@ edit_brought e g ls ks f m step h s over none made groups sets =
         go (inr (b, other)) =
             subst (λ v. IsOverRasp v (slot ks k)) (sym (elsewhere k other)) (subst (λ o. IsOverRasp (rasp_at e.term k) o) (sym (sets.1 k other)) (over k))
 
--- the layer that is put has room for its next edit
-pub put-room : (e : PlainTermEndpoint) (ls : Slots Layer) (f : ℕ) (m : Option ℕ) (h : IsPutting e ls m f) (l : Layer) → slot ls f ≡ Some l → h.layer ≡ l
-put-room e ls f m h l is =
-    let same : Some h.layer ≡ Some l = sym h.waits ∙ is in
-    grind (arith, same)
-
 pub no-frame : (frames : List HFrame) → slice_get frames 0 ≡ None → frames ≡ []
 no-frame [] is = refl
 no-frame (frame ∷ frames) is = absurd cc

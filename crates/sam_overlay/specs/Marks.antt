@@ -25,8 +25,8 @@ moved_place g (plan.Fills p n) cs x = x
 moved_place g (plan.Removes p n) cs x = place_after_removal g p (p + n) x cs
 moved_place g plan.Empties cs x = x
 
--- where place x goes that a request of group g names. Past the end of the text that the request comes to no place moves: it is one of a text
--- that is to come, as of a file that is to be opened first
+-- where place x goes that a request of group g names. Past the end of the text that the request comes to no place moves: it is one of a
+-- text that is to come, as of a file that is to be opened first
 abbrev pub place_after : ℕ → Plan → List Cell → ℕ → ℕ
 place_after g change cs x = if nat_lt (length (text_at g cs)) x then x else moved_place g change cs x
 
@@ -70,8 +70,8 @@ marked (m ∷ ms) (r ∷ rs) = with_request_marks m r ∷ marked ms rs
 
 -- ## As runes are taken back
 
--- of the first x members of the text that a request of group g comes to, how many go as the next runes are taken back of what waits over the
--- file, of the groups up to a limit
+-- of the first x members of the text that a request of group g comes to, how many go as the next runes are taken back of what waits over
+-- the file, of the groups up to a limit
 abbrev pub lost_of : Option ℕ → ℕ → ℕ → Option Layer → ℕ
 lost_of m g x None = 0
 lost_of m g x (Some l) = lost_in m g x (runs_of l)
@@ -103,4 +103,5 @@ text_before k x new t = if nat_lt k x then take k t ++ new ++ drop k (take x t) 
 abbrev pub InsertionsMovePlaces : Type 0
 InsertionsMovePlaces =
     (g p x : ℕ) (new : PartialText) (cs : List Cell) → x ≤ length (text_at g cs)
-    → take (place_after_ins (place_at g p cs) (length new) x) (text_at g (inserted p new cs)) ≡ text_before (place_at g p cs) x new (text_at g cs)
+    → take (place_after_ins (place_at g p cs) (length new) x) (text_at g (inserted p new cs))
+    ≡ text_before (place_at g p cs) x new (text_at g cs)

@@ -130,7 +130,8 @@ pub record Stepped (e : PlainTermEndpoint) (ls : Slots Layer) (x : OverlayStep) 
   pub told : (f : ℕ) → Leads (told_at x f) (shown_of (cells_of_file e.term ls f)) (shown_of (cells_of_file g.term ks f))
 
 -- by a step the edit that was put, of the groups up to a limit, came to the rasp of file f; nothing that is shown moved
-pub record Brought (e : PlainTermEndpoint) (ls : Slots Layer) (m : Option ℕ) (f : ℕ) (g : PlainTermEndpoint) (ks : Slots Layer) : Type 0 where
+pub record Brought (e : PlainTermEndpoint) (ls : Slots Layer) (m : Option ℕ) (f : ℕ) (g : PlainTermEndpoint) (ks : Slots Layer)
+    : Type 0 where
   pub change : Change
   pub made : IsMade (cells_of_file e.term ls f) change (cells_of_file g.term ks f)
   pub by : (b : ℕ) → m ≡ Some b → IsMadeBy b (cells_of_file e.term ls f) change (cells_of_file g.term ks f)

@@ -1,9 +1,9 @@
 //! What waits over the rasps of files, by tag.
 
-ghost use Rattle.std.specs.Prelude.{◌≡◌, ◌++◌, ◌+◌, ◌-◌, ◌<◌, ◌≤◌, ◌^◌, ℕ, [], length, OnErr, OnOk, IfOk, Ok, Some, None, IsTrue, ◌≢◌, is_some, option_copied, option_map, List, replicate, vec_len, vec_capacity};
+ghost use Rattle.std.specs.Prelude.{◌≡◌, ◌++◌, ◌+◌, ◌<◌, ◌≤◌, ℕ, [], length, OnErr, OnOk, IfOk, Ok, Some, None, IsTrue, ◌≢◌, is_some, option_copied, option_map, replicate, vec_len, vec_capacity};
 ghost use Rattle.sam_runes.specs.Slots.{slot};
 ghost use Rattle.sam_pending.specs.Layers.{Layer, IsPrepared, with_change, next_made, rasp_length};
-ghost use Rattle.sam_overlay.specs.Outcomes.{IsNextKept, IsNextMade, IsNextWaiting, LayerDrops, LayerReplaces, IsNextMadeBy, NoneWaits, SaysLeft, has_edit, layer_after, newest_in, newest_over};
+ghost use Rattle.sam_overlay.specs.Outcomes.{IsNextKept, IsNextMade, IsNextWaiting, LayerDrops, LayerReplaces, IsNextMadeBy, SaysLeft, has_edit, layer_after, newest_in, newest_over};
 ghost use Rattle.sam_overlay.specs.Setting.{Sets};
 ghost use Rattle.sam_pending.specs.Blocks.{BlockChange};
 ghost use Rattle.sam_runes.specs.Texts.{max_runes};

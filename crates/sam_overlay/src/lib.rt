@@ -4,6 +4,7 @@
 
 mod fault;
 mod frame_plan;
+mod gaps;
 mod layers;
 mod marks;
 mod numbers;

@@ -1,6 +1,6 @@
 //! `OrderedOverlay`: an overlay whose requests stand in one order with the edits.
 
-ghost use Rattle.std.specs.Prelude.{◌≡◌, ◌≢◌, ◌⊎◌, ◌↔◌, ◌<◌, ◌≤◌, ◌^◌, ◌-◌, ℕ, [], drop, length, slice_get, IsTrue, is_some, true, Some, None, Ok, Err, IfErr, IfOk, IfSome, OnErr, OnOk};
+ghost use Rattle.std.specs.Prelude.{◌≡◌, ◌≢◌, ◌⊎◌, ◌↔◌, ◌<◌, ◌≤◌, ◌^◌, ◌-◌, ℕ, drop, length, slice_get, IsTrue, is_some, true, Some, None, Err, IfErr, IfOk, IfSome, OnErr, OnOk};
 ghost use Rattle.sam_runes.specs.Checks.{first_of_checks};
 ghost use Rattle.sam_pending.specs.Cells.{IsTakenBack};
 ghost use Rattle.sam_endpoint.specs.TermStepping.{Steps};

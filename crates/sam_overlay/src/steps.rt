@@ -1,9 +1,8 @@
 //! Steps of a terminal end over whose rasps edits wait. Whatever wants memory comes before the end's own step, and what is left to do after
 //! it can't fail.
 
-ghost use Rattle.std.specs.Prelude.{◌≡◌, ◌≤◌, ℕ, [], None, OnErr, OnOk, IfOk, length};
+ghost use Rattle.std.specs.Prelude.{◌≡◌, [], None, OnErr, OnOk, IfOk};
 ghost use Rattle.sam_runes.specs.Slots.{slot};
-ghost use Rattle.sam_runes.specs.Texts.{max_runes};
 ghost use Rattle.sam_endpoint.specs.TermStepping.{Steps};
 ghost use Rattle.sam_overlay.specs.Outcomes.{change_told, event_told};
 ghost use Rattle.sam_overlay.specs.Overlays.{AreOver, AreRequests, Brought, IsPutting, Stepped, StopsOnly, end_step, is_received};

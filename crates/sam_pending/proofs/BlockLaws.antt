@@ -13,12 +13,9 @@ use Rattle.sam_pending.specs.declared.run.Side.TheVariants.{Above}
 use Rattle.sam_pending.proofs.RunLaws.{rooms-append}
 use Rattle.sam_pending.proofs.JoinLaws.{waits-append, above-append, take-add, within-first, within-last}
 use Rattle.sam_pending.proofs.FlatLaws.{flat-append}
-use Rattle.sam_pending.proofs.FirstLaws.{has_due-append, flat_made}
 use Rattle.sam_pending.proofs.LayerLaws.{above-most}
 
 -- ## Sums
-
-pub ruleset sum_facts = (rooms-append, waits-append, above-append)
 
 pub newest-append : (a b : List Run) → newest_of (a ++ b) ≡ max (newest_of a) (newest_of b)
 newest-append [] b = grind arith
@@ -28,8 +25,6 @@ newest-append (x ∷ a) b = step (nat_eq (size x) 0) (newest-append a b)
         → cond t (newest_of (a ++ b)) (max (newest_run x) (newest_of (a ++ b))) ≡ max (cond t (newest_of a) (max (newest_run x) (newest_of a))) (newest_of b)
     step true e = e
     step false e = grind (arith, e)
-
-pub ruleset newest_facts = (newest-append)
 
 -- ## The oldest group
 
@@ -116,8 +111,6 @@ first-here w (x ∷ a) b n e = step (is_due w x) e (first-here w a b (n + room x
         → cond t (Some (x, n)) (first_due w (n + room x) (a ++ b)) ≡ cond t (Some (x, n)) (first_due w (n + room x) a)
     step true f i = refl
     step false f i = i f
-
-pub ruleset first_facts = (first-past, first-here, rooms-append)
 
 pub made_none : (w : Deed) (xs : List Run) (n : ℕ) → first_due w n xs ≡ None → made_first w xs ≡ xs
 made_none w [] n e = refl
@@ -238,8 +231,6 @@ part_fits xs i n =
 
 pub ruleset cut_facts = (cut-more, part_fits)
 
-pub ruleset due_facts = (has_due-append)
-
 pub ruleset new_facts = (above-most)
 
 pub ruleset make_facts = (made_fits, above-most)
@@ -266,12 +257,6 @@ pub within-on : (bs : List (List Run)) (i n : ℕ) (b : List Run) → i < length
 within-on bs i n b l e w =
     let v : Within n (b ++ flat (drop (i + 1) bs)) = subst (Within n) (one-more bs i b l e) w in (within-first n b (flat (drop (i + 1) bs)) v, within-last n b (flat (drop (i + 1) bs)) v)
 
-pub newest-on : (bs : List (List Run)) (i : ℕ) (b : List Run) → i < length bs → b ≡ get_or bs i b → newest_of (flat (drop i bs)) ≡ max (newest_of b) (newest_of (flat (drop (i + 1) bs)))
-newest-on bs i b l e = ap newest_of (one-more bs i b l e) ∙ newest-append b (flat (drop (i + 1) bs))
-
-pub due-on : (w : Deed) (bs : List (List Run)) (i : ℕ) (b : List Run) → i < length bs → b ≡ get_or bs i b → has_due w (flat (drop i bs)) ≡ has_due w b || has_due w (flat (drop (i + 1) bs))
-due-on w bs i b l e = ap (has_due w) (one-more bs i b l e) ∙ has_due-append w b (flat (drop (i + 1) bs))
-
 pub first-on : (w : Deed) (bs : List (List Run)) (i n : ℕ) (b : List Run) → i < length bs → b ≡ get_or bs i b → has_due w b ≡ false
     → first_due w n (flat (drop i bs)) ≡ first_due w (n + rooms b) (flat (drop (i + 1) bs))
 first-on w bs i n b l e h = ap (first_due w n) (one-more bs i b l e) ∙ first-past w b (flat (drop (i + 1) bs)) n h
@@ -284,7 +269,7 @@ first-in w bs i n b l e h = ap (first_due w n) (one-more bs i b l e) ∙ first-h
 above-first : (x : Run) (xs : List Run) → above (x ∷ xs) ≡ above (x ∷ []) + above xs
 above-first x xs = above-append (x ∷ []) xs
 
-typed-past : (m : Option ℕ) (a b : List Run) (n : ℕ) → has_due (Inserts m) a ≡ false → first_typed m n (a ++ b) ≡ first_typed m (n + above a) b
+pub typed-past : (m : Option ℕ) (a b : List Run) (n : ℕ) → has_due (Inserts m) a ≡ false → first_typed m n (a ++ b) ≡ first_typed m (n + above a) b
 typed-past m [] b n e = let z : n ≡ n + 0 = omega arith in ap (λ k. first_typed m k b) z
 typed-past m (x ∷ a) b n e = step (is_due (Inserts m) x) e (typed-past m a b (n + above (x ∷ [])))
   where

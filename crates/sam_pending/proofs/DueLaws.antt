@@ -425,13 +425,6 @@ made_texts cs e ds m = go m.made
 
 pub ruleset next_facts = (none_left, rests_said)
 
--- a run that is made holds no more than there was in it
-pub room-made : (x : Run) → room (made_run x) ≤ room x + wait x
-room-made (Held k d) = omega arith
-room-made (Typed s b d) = omega arith
-
-pub ruleset length_facts = (room-made)
-
 pub ruleset make_facts = (next_layer, next_is)
 
 pub ruleset rest_facts = (rests-left)

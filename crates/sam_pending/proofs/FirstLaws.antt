@@ -1,5 +1,5 @@
 -- The first run at which an edit is due, and the block in which it is.
-use Rattle.std.proofs.Common.{◌≡◌, refl, sym, ap, ◌∙◌, ℕ, suc, ◌+◌, ◌≤◌, ◌<◌, Bool, true, false, cond, ◌||◌, List, [], ◌∷◌, ◌++◌, length, take, drop, get_or, set, Option, None, arith, append-nil, take-append-drop}
+use Rattle.std.proofs.Common.{◌≡◌, refl, sym, ap, ◌∙◌, ℕ, suc, ◌+◌, ◌≤◌, ◌<◌, Bool, true, false, cond, ◌||◌, List, [], ◌∷◌, ◌++◌, length, take, drop, get_or, set, Option, None, arith, append-nil, drop-drop, length-take-le, take-append-drop}
 use Rattle.std.proofs.lemmas.List.{drop_more, set_split, take_all, take_more}
 use Rattle.sam_pending.specs.Blocks.{flat, first_in, made_in, taken_in}
 use Rattle.sam_pending.specs.Runs.{has_due, is_due, made_first, made_run, taken_first}
@@ -8,6 +8,7 @@ use Rattle.sam_pending.specs.declared.run.Run.TheVariants.{Held}
 use Rattle.sam_pending.specs.declared.run.Deed.{Deed}
 use Rattle.sam_pending.specs.declared.run.Deed.TheVariants.{Inserts}
 use Rattle.sam_pending.proofs.FlatLaws.{flat-append}
+use Rattle.sam_pending.proofs.RunLaws.{drop-front, take-front}
 
 -- ## Runs
 
@@ -122,3 +123,19 @@ pub none-made : (made : List Run → List Run) (w : Deed) (bs : List (List Run))
 none-made made w bs i l e =
     let off : has_due w (flat bs) ≡ false = ap (λ z. has_due w (flat z)) (sym (take_all i bs l)) ∙ e in
     sym (append-nil bs) ∙ (sym (first-past made w bs [] off) ∙ ap (first_in made w) (append-nil bs))
+
+-- the blocks before one that is set, and those behind it
+pub take_set : (bs : List (List Run)) (i : ℕ) (b : List Run) → i < length bs → take i (set bs i b) ≡ take i bs
+take_set bs i b l =
+    let size : i ≡ length (take i bs) = sym (length-take-le i bs (omega (arith, l))) in
+    ap (take i) (set_split bs i b l) ∙ (ap (λ k. take k (take i bs ++ b ∷ drop (suc i) bs)) size ∙ take-front (take i bs) (b ∷ drop (suc i) bs))
+
+pub drop_set : (bs : List (List Run)) (i : ℕ) (b : List Run) → i < length bs → drop (i + 1) (set bs i b) ≡ drop (i + 1) bs
+drop_set bs i b l =
+    let size : length (take i bs) ≡ i = length-take-le i bs (omega (arith, l)) in
+    let next : suc i ≡ i + 1 = omega arith in
+    let long : i + 1 ≡ length (take i bs) + 1 = omega (arith, size) in
+    ap (drop (i + 1)) (set_split bs i b l)
+    ∙ (ap (λ k. drop k (take i bs ++ b ∷ drop (suc i) bs)) long
+    ∙ (sym (drop-drop 1 (length (take i bs)) (take i bs ++ b ∷ drop (suc i) bs))
+    ∙ (ap (drop 1) (drop-front (take i bs) (b ∷ drop (suc i) bs)) ∙ ap (λ k. drop k bs) next)))

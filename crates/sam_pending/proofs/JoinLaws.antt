@@ -39,9 +39,6 @@ pub within-last : (n : ℕ) (a b : List Run) → Within n (a ++ b) → Within n 
 within-last n [] b w = w
 within-last n (x ∷ a) b w = within-last n a b w.1
 
-pub same-whole : (xs : List Run) → IsSame xs xs
-same-whole xs = record { cells = λ text r. refl; rooms = refl; waits = refl; above = refl; within = λ n w. w }
-
 pub same-then : (xs ys zs : List Run) → IsSame xs ys → IsSame ys zs → IsSame xs zs
 same-then xs ys zs a b = record {
   cells = λ text r. a.cells text r ∙ b.cells text r;

@@ -1,5 +1,5 @@
 -- Runs over a text that is written anew.
-use Rattle.std.proofs.Common.{◌≡◌, refl, sym, ap, ◌∙◌, subst, ℕ, ◌+◌, ◌≤◌, Bool, true, false, cond, List, [], ◌∷◌, ◌++◌, map, length, take, drop, Option, Some, None, is_none, arith, append_assoc, append-nil, length-append, length-drop}
+use Rattle.std.proofs.Common.{◌≡◌, refl, sym, ap, ◌∙◌, ℕ, ◌+◌, ◌≤◌, cond, List, [], ◌∷◌, ◌++◌, map, length, take, drop, is_none, arith, append_assoc, append-nil, length-append}
 use Rattle.sam_pending.specs.Cells.{PartialText}
 use Rattle.sam_pending.specs.Runs.{held, typed_by, runes_of, rooms, wait, waits, above, cells_of, reach, Within, kept_text, kept_runs}
 use Rattle.sam_pending.specs.declared.run.Run.{Run}

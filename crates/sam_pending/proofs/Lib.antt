@@ -19,3 +19,4 @@ pub mod BlockLaws
 pub mod PartLaws
 pub mod FrameLaws
 pub mod PassLaws
+pub mod MarkLaws

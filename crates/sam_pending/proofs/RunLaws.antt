@@ -1,5 +1,5 @@
 -- Runs and the cells that they stand for.
-use Rattle.std.proofs.Common.{◌≡◌, refl, sym, ap, ◌∙◌, subst, ℕ, zero, suc, ◌+◌, ◌-◌, ◌≤◌, ◌<◌, Bool, true, false, not, cond, nat_eq, nat_le, List, [], ◌∷◌, ◌++◌, map, length, take, drop, Option, Some, None, is_none, arith, append_assoc, append-nil, drop-drop, take-append-drop, length-append, length-take-le, length-drop, take-take}
+use Rattle.std.proofs.Common.{◌≡◌, refl, sym, ap, ◌∙◌, subst, ℕ, zero, suc, ◌+◌, ◌-◌, ◌≤◌, ◌<◌, Bool, true, false, not, cond, nat_eq, nat_le, List, [], ◌∷◌, ◌++◌, map, length, take, drop, Option, Some, None, arith, append_assoc, append-nil, drop-drop, length-append, length-take-le, length-drop, take-take}
 use Rattle.std.proofs.lemmas.List.{length-map, take-map, drop-map, drop-take}
 use Rattle.std.proofs.lemmas.Bool.{leb-true, le-leb}
 use Rattle.std.proofs.lemmas.Bool.Decides.{leb_tells}
@@ -243,9 +243,6 @@ within-more n m [] l w = tt
 within-more n m (x ∷ xs) l w = (omega (arith, l, w.0), within-more n m xs l w.1)
 
 -- ## Steps of the walk
-
-front-zero : (v : Side) (a : List Run) (xs : List Run) → a ++ front v 0 xs ≡ a
-front-zero v a xs = append-nil a
 
 -- the run x, where the place is p further on than its start
 pub sort_past : (v : Side) (p : ℕ) (x : Run) → 0 < p → run_counts v x ≡ true → size x ≤ p → (xs : List Run)

@@ -1,8 +1,8 @@
 -- Where places go, of the text that a request of a group comes to, as runes that wait are taken back.
 use Rattle.std.proofs.Common.{◌≡◌, refl, sym, ap, ◌∙◌, ℕ, zero, suc, ◌+◌, ◌-◌, ◌≤◌, Bool, true, false, not, cond, nat_le, ◌&&◌, List, [], ◌∷◌, ◌++◌, map, length, take, drop, Option, arith, append_assoc, length-append, length-take, length-take-le}
 use Rattle.std.specs.Prelude.{min}
-use Rattle.sam_pending.specs.Cells.{Cell, PartialText, by, stands_at, take_by, text_at}
-use Rattle.sam_pending.specs.Groups.{DropsMovePlaces, TakesPlace, lost_before, without}
+use Rattle.sam_pending.specs.Cells.{Cell, PartialText, by, stands_at, text_at}
+use Rattle.sam_pending.specs.Groups.{DropsMovePlaces, lost_before, without}
 use Rattle.sam_pending.specs.Runs.{cells, held, passed, reach, room, run_stands, runes_of, size, typed_by}
 use Rattle.sam_pending.specs.declared.run.Run.{Run}
 use Rattle.sam_pending.specs.declared.run.Run.TheVariants.{Held, Typed}

@@ -4,3 +4,4 @@ pub mod Runs
 pub mod Layers
 pub mod Faults
 pub mod Blocks
+pub mod Marks

@@ -1,10 +1,12 @@
 //! `Block`: some runs in order, with their sums.
 
-ghost use Rattle.std.specs.Prelude.{◌≡◌, ◌≤◌, ◌<◌, ◌+◌, ◌^◌};
-ghost use Rattle.sam_pending.specs.Blocks.{inserting_run, measure, older, oldest_inserting, oldest_removing, reaches, removing_run};
+ghost use Rattle.std.specs.Prelude.{◌≡◌, ◌<◌, ◌+◌, ◌^◌};
+ghost use Rattle.sam_pending.specs.Blocks.{inserting_run, measure, oldest_inserting, oldest_removing, removing_run};
+ghost use Rattle.sam_pending.specs.Marks.{sums_of};
 ghost use Rattle.sam_pending.specs.Runs.{above, has_due, made_first, newest_of, rooms, taken_first, waits};
 
 use crate::run::{Deed, Run, Side};
+use crate::sums::{Sums, older};
 use crate::{due, runs};
 use std::marker::Model;
 
@@ -13,57 +15,30 @@ use std::marker::Model;
 pub struct Block {
     /// The runs.
     runs: Vec<Run>,
-    /// How many members of the rasp they hold.
-    rasp_len: u32,
-    /// How many of their runes wait.
-    waiting_len: u32,
-    /// How many of their cells are shown.
-    shown_len: u32,
-    /// Their newest group; 0 if none waits.
-    newest: u32,
-    /// The oldest group that takes members out.
-    removing: Option<u32>,
-    /// The oldest group whose runes wait.
-    inserting: Option<u32>,
+    /// Their sums.
+    sums: Sums,
 }
 
 impl Model for Block {
     ghost use Rattle.std.specs.Prelude.{◌≡◌, List};
     ghost use Rattle.sam_pending.specs.declared.run.Run.{Run};
-    ghost use Rattle.sam_pending.specs.Runs.{above, newest_of, rooms, waits};
-    ghost use Rattle.sam_pending.specs.Blocks.{oldest_inserting, oldest_removing};
+    ghost use Rattle.sam_pending.specs.Marks.{sums_of};
 
     ghost Value = { List Run };
 
     ghost view = { λ b. b.runs.items };
 
-    ghost invariant = { λ b. (b.rasp_len ≡ rooms b.runs.items) × (b.waiting_len ≡ waits b.runs.items) × (b.shown_len ≡ above b.runs.items)
-        × (b.newest ≡ newest_of b.runs.items) × (b.removing ≡ oldest_removing b.runs.items)
-        × (b.inserting ≡ oldest_inserting b.runs.items) };
+    ghost invariant = { λ b. b.sums ≡ sums_of b.runs.items };
 }
 
 impl Block {
     /// Returns the block of these runs.
-    #[tactic(auto, using(crate::proofs::BlockLaws::new_facts))]
     pub fn new(runs: Vec<Run>) -> Block
         requires { rooms runs.items + waits runs.items < 2 ^ 32 }
         ensures { result ≡ runs.items }
     {
-        let rasp_len = runs::rasp_len(runs.as_slice());
-        let waiting_len = runs::waiting_len(runs.as_slice());
-        let shown_len = runs::shown_len(runs.as_slice());
-        let newest = runs::newest(runs.as_slice());
-        let removing = oldest_removing(runs.as_slice());
-        let inserting = oldest_inserting(runs.as_slice());
-        Block {
-            runs,
-            rasp_len,
-            waiting_len,
-            shown_len,
-            newest,
-            removing,
-            inserting,
-        }
+        let sums = sums_of(runs.as_slice());
+        Block { runs, sums }
     }
 
     /// Returns its runs.
@@ -73,25 +48,25 @@ impl Block {
         self.runs.as_slice()
     }
 
+    /// Returns their sums.
+    pub fn sums(&self) -> Sums
+        ensures { result ≡ sums_of self.now }
+    {
+        self.sums
+    }
+
     /// Returns how many members of the rasp it holds.
     pub fn rasp_len(&self) -> u32
         ensures { result ≡ rooms self.now }
     {
-        self.rasp_len
-    }
-
-    /// Returns how many of its runes wait.
-    pub fn waiting_len(&self) -> u32
-        ensures { result ≡ waits self.now }
-    {
-        self.waiting_len
+        self.sums.rasp_len
     }
 
     /// Returns how many of its cells are shown.
     pub fn shown_len(&self) -> u32
         ensures { result ≡ above self.now }
     {
-        self.shown_len
+        self.sums.shown_len
     }
 
     /// Returns how many of its cells count on a side.
@@ -108,7 +83,7 @@ impl Block {
     pub fn newest(&self) -> u32
         ensures { result ≡ newest_of self.now }
     {
-        self.newest
+        self.sums.newest
     }
 
     /// Returns whether such an edit is due at some run of it.
@@ -116,11 +91,7 @@ impl Block {
     pub fn has_due(&self, deed: Deed) -> bool
         ensures { result ≡ has_due deed self.now }
     {
-        let _ = &self.rasp_len;
-        match deed {
-            Deed::Removes(limit) => reaches(limit, self.removing),
-            Deed::Inserts(limit) => reaches(limit, self.inserting),
-        }
+        self.sums.has_due(deed)
     }
 
     /// Makes the edit at the first run at which such an edit is due; all stays if it is due at none.
@@ -130,12 +101,7 @@ impl Block {
         ensures { self.new ≡ made_first deed self.old }
     {
         due::make_first(&mut self.runs, deed);
-        self.rasp_len = runs::rasp_len(self.runs.as_slice());
-        self.waiting_len = runs::waiting_len(self.runs.as_slice());
-        self.shown_len = runs::shown_len(self.runs.as_slice());
-        self.newest = runs::newest(self.runs.as_slice());
-        self.removing = oldest_removing(self.runs.as_slice());
-        self.inserting = oldest_inserting(self.runs.as_slice());
+        self.sums = sums_of(self.runs.as_slice());
     }
 
     /// Puts an empty run in place of the first one whose runes are due, of the groups up to a limit; all stays if none are.
@@ -145,25 +111,23 @@ impl Block {
         ensures { self.new ≡ taken_first up_to self.old }
     {
         due::take_first(&mut self.runs, up_to);
-        self.rasp_len = runs::rasp_len(self.runs.as_slice());
-        self.waiting_len = runs::waiting_len(self.runs.as_slice());
-        self.shown_len = runs::shown_len(self.runs.as_slice());
-        self.newest = runs::newest(self.runs.as_slice());
-        self.removing = oldest_removing(self.runs.as_slice());
-        self.inserting = oldest_inserting(self.runs.as_slice());
+        self.sums = sums_of(self.runs.as_slice());
     }
 }
 
-/// Returns whether there is such a group, and it is within the limit, if there is a limit.
-fn reaches(limit: Option<u32>, group: Option<u32>) -> bool
-    ensures { result ≡ reaches limit group }
+/// Returns the sums of the runs.
+#[tactic(auto, using(crate::proofs::BlockLaws::new_facts))]
+fn sums_of(runs: &[Run]) -> Sums
+    requires { rooms runs.now + waits runs.now < 2 ^ 32 }
+    ensures { result ≡ sums_of runs.now }
 {
-    match group {
-        None => false,
-        Some(oldest) => match limit {
-            None => true,
-            Some(last) => oldest <= last,
-        },
+    Sums {
+        rasp_len: runs::rasp_len(runs),
+        waiting_len: runs::waiting_len(runs),
+        shown_len: runs::shown_len(runs),
+        newest: runs::newest(runs),
+        removing: oldest_removing(runs),
+        inserting: oldest_inserting(runs),
     }
 }
 
@@ -184,19 +148,6 @@ fn inserting(run: Run) -> Option<u32>
     match run {
         Run::Held(_, _) => None,
         Run::Typed(runes, born, _) => { if runes.count > 0 { Some(born) } else { None } }
-    }
-}
-
-/// Returns the older of two groups, where there are two.
-fn older(one: Option<u32>, other: Option<u32>) -> Option<u32>
-    ensures { result ≡ older one other }
-{
-    match one {
-        None => other,
-        Some(group) => match other {
-            None => Some(group),
-            Some(next) => Some(group.min(next)),
-        },
     }
 }
 

@@ -7,8 +7,8 @@ ghost use Rattle.sam_pending.specs.Runs.{above, back, filled_runs, front, gone_r
 ghost use Rattle.sam_pending.specs.declared.run.Run.TheVariants.{Held};
 ghost use Rattle.sam_pending.specs.declared.run.Side.TheVariants.{Below};
 
-use crate::block::Block;
-use crate::blocks::{append, cut, put, shown_len};
+use crate::blocks::{Blocks, cut};
+use crate::marks::most_marks;
 use crate::part::part_of;
 use crate::run::{Run, Side};
 use crate::runs;
@@ -16,9 +16,9 @@ use crate::told::{Filling, Prepared, Removal};
 use std::alloc::{AllocError, Global};
 
 /// Prepares that blocks of these runs take the place of so many blocks from block `first` on. The only error is out of memory.
-fn prepared(
+pub(crate) fn prepared(
     alloc: Global,
-    blocks: &[Block],
+    blocks: &Blocks,
     first: usize,
     count: usize,
     after: &[Run],
@@ -31,12 +31,20 @@ fn prepared(
     ensures change { IfOk result (λ change. IsChange change blocks.now) }
 {
     let made = cut(alloc, after)?;
-    let room = Vec::with_capacity(alloc, blocks.len() + made.len())?;
+    let most = blocks.as_slice().len() + made.len();
+    let mut room = Vec::new(alloc);
+    let mut marks = Vec::new(alloc);
+    if made.len() != count {
+        room.reserve(most)?;
+        marks.reserve(most_marks(most))?;
+    }
     Ok(Prepared {
         first,
         count,
         made,
+        most,
         room,
+        marks,
     })
 }
 
@@ -44,7 +52,7 @@ fn prepared(
 /// of memory.
 pub(crate) fn inserted(
     alloc: Global,
-    blocks: &[Block],
+    blocks: &Blocks,
     p: u32,
     count: u32,
 ) -> Result<(u32, Prepared), AllocError>
@@ -57,7 +65,7 @@ pub(crate) fn inserted(
     ensures change { IfOk result (λ told. IsChange told.1 blocks.now) }
 {
     let part = part_of(alloc, blocks, Side::Below, p, p)?;
-    let before = shown_len(&blocks[..part.first]);
+    let before = blocks.sums_to(part.first).shown_len;
     let (place, after) = runs::inserted(alloc, part.runs.as_slice(), part.at, count)?;
     let change = prepared(alloc, blocks, part.first, part.count, after.as_slice())?;
     Ok((before + place, change))
@@ -67,7 +75,7 @@ pub(crate) fn inserted(
 /// only error is out of memory.
 pub(crate) fn removed(
     alloc: Global,
-    blocks: &[Block],
+    blocks: &Blocks,
     p: u32,
     q: u32,
 ) -> Result<(Vec<Removal>, Prepared), AllocError>
@@ -82,7 +90,7 @@ pub(crate) fn removed(
     ensures change { IfOk result (λ told. IsChange told.1 blocks.now) }
 {
     let part = part_of(alloc, blocks, Side::Below, p, q)?;
-    let before = shown_len(&blocks[..part.first]);
+    let before = blocks.sums_to(part.first).shown_len;
     let (told, after) = runs::removed(alloc, before, part.runs.as_slice(), part.at, q - p)?;
     let change = prepared(alloc, blocks, part.first, part.count, after.as_slice())?;
     Ok((told, change))
@@ -92,7 +100,7 @@ pub(crate) fn removed(
 /// memory.
 pub(crate) fn loaded(
     alloc: Global,
-    blocks: &[Block],
+    blocks: &Blocks,
     p: u32,
     count: u32,
 ) -> Result<Vec<Filling>, AllocError>
@@ -103,23 +111,27 @@ pub(crate) fn loaded(
         ≡ filled_runs (above (front Below p (flat blocks.now))) 0 (front Below count (back Below p (flat blocks.now)))) }
 {
     let part = part_of(alloc, blocks, Side::Below, p, p + count)?;
-    let before = shown_len(&blocks[..part.first]);
+    let before = blocks.sums_to(part.first).shown_len;
     runs::loaded(alloc, before, part.runs.as_slice(), part.at, count)
 }
 
 /// Makes a change that was prepared of these blocks.
-pub(crate) fn take_on(blocks: &mut Vec<Block>, change: Prepared)
-    requires { IsChange change blocks.old.items }
-    ensures { blocks.new.items ≡ changed change blocks.old.items }
+pub(crate) fn take_on(blocks: &mut Blocks, change: Prepared)
+    requires change { IsChange change blocks.old }
+    requires fits { rooms (flat (changed change blocks.old)) + waits (flat (changed change blocks.old)) < 2 ^ 32 }
+    ensures { blocks.new ≡ changed change blocks.old }
 {
     let Prepared {
         first,
         count,
         made,
+        most: _,
         room,
+        marks,
     } = change;
-    let mut all = room;
-    append(&mut all, blocks);
-    put(&mut all, first, count, made);
-    *blocks = all;
+    if made.len() == count {
+        blocks.exchange(first, made);
+    } else {
+        blocks.put(first, count, made, room, marks);
+    }
 }

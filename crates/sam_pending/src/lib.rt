@@ -7,11 +7,13 @@ mod blocks;
 mod due;
 mod fault;
 mod frames;
+mod marks;
 mod part;
 mod pending;
 mod places;
 mod run;
 mod runs;
+mod sums;
 mod told;
 
 pub use fault::PendingFault;

@@ -1,14 +1,14 @@
 //! `Pending`: edits of one file that wait, over its rasp.
 
-ghost use Rattle.std.specs.Prelude.{◌≡◌, ◌⊎◌, ◌<◌, ◌≤◌, ◌+◌, ◌-◌, ◌++◌, ◌↔◌, IsTrue, ℕ, List, [], ◌∷◌, false, length, take, drop, map, reverse, Some, None, Ok, Err, IfOk, IfSome, OnOk, OnErr, MatchOption, All, vec_capacity, vec_len};
+ghost use Rattle.std.specs.Prelude.{◌≡◌, ◌⊎◌, ◌<◌, ◌≤◌, ◌+◌, ◌-◌, ◌++◌, ◌↔◌, IsTrue, ℕ, List, false, length, take, drop, map, reverse, Some, None, Ok, Err, IfOk, IfSome, OnOk, OnErr, MatchOption, All, vec_capacity, vec_len};
 ghost use Rattle.sam_runes.specs.Texts.{max_runes};
 ghost use Rattle.sam_pending.specs.Cells.{PartialText, IsMade, all_put, place_at, put, shown_of, shown_place, waiting_of, IsNewest, resting, replaced, inserted, removed, filled};
 ghost use Rattle.sam_pending.specs.Groups.{IsMadeBy, place_after_removal};
 ghost use Rattle.sam_pending.specs.Runs.{lost_in, rests, has_next, edit_change, removal_changes, filling_changes};
-ghost use Rattle.sam_pending.specs.Layers.{cells_over, rasp_length, waiting_length, shown_length, newest_group, shown_members, next_edit, next_made, DropsNext, first_dropped, runs_of, with_change, IsLayer, IsPrepared, IsOver, IsTidied, SaysLeft, most_kept};
+ghost use Rattle.sam_pending.specs.Layers.{cells_over, rasp_length, waiting_length, shown_length, newest_group, shown_members, next_edit, next_made, DropsNext, first_dropped, runs_of, with_change, IsPrepared, IsOver, IsTidied, SaysLeft};
 ghost use Rattle.sam_runes.specs.declared.edit.Edit.{Edit};
 
-use crate::block::Block;
+use crate::blocks::Blocks;
 use crate::fault::PendingFault;
 use crate::run::{Run, Stretch};
 use crate::told::{Dropped, Filling, Prepared, Removal, Shown};
@@ -40,17 +40,18 @@ const SPARE: usize = 1_024;
 /// pending.make_next(Some(1)); // the caller made that edit there, and nothing waits any more
 /// ```
 ///
-/// Runs, which are stretches of cells of one sort, stand in blocks with sums. `replace`, a change of the host's, the next edit and a place
-/// of what is shown pass over blocks, of some hundred runs each, and look into those in which something changes or stands, mostly one or
-/// two. A place of a request also looks into blocks in which a later group waits. Each change makes at most three runs more, and in the
-/// blocks that it changes those that can be one are joined: runes that are typed one after another are one run. At times the runes that
-/// wait are copied, when as many came to the rasp or went since the last time.
+/// Runs, which are stretches of cells of one sort, stand in blocks of some hundred, each with its sums, and some hundred blocks have their
+/// sums together. So each call passes over a hundred blocks at once, then over some blocks one by one, and looks into those in which
+/// something changes or stands, mostly one or two. A place of a request also looks into blocks in which a later group waits. Each change makes at most three
+/// runs more, and in the blocks that it changes those that can be one are joined: runes that are typed one after another are one run. All
+/// blocks move as a block becomes two, or two become one. At times the runes that wait are copied, when as many came to the rasp or went
+/// since the last time.
 #[derive(Drop)]
 pub struct Pending {
     /// The runes that wait, and some that wait no more.
     text: Vec<char>,
     /// The cells in order.
-    runs: Vec<Block>,
+    runs: Blocks,
     /// What gives the memory.
     alloc: Global,
 }
@@ -60,9 +61,9 @@ impl Model for Pending {
 
     ghost Value = { Layer };
 
-    ghost view = { λ s. record { text = s.text.items; blocks = s.runs.items } };
+    ghost view = { λ s. record { text = s.text.items; blocks = s.runs } };
 
-    ghost invariant = { λ s. IsLayer (record { text = s.text.items; blocks = s.runs.items }) };
+    ghost invariant = { λ s. IsLayer (record { text = s.text.items; blocks = s.runs }) };
 }
 
 impl Pending {
@@ -82,7 +83,7 @@ impl Pending {
         let runs = blocks::cut(alloc, &[Run::Held(len, None)])?;
         Ok(Pending {
             text: Vec::new(alloc),
-            runs,
+            runs: Blocks::new(alloc, runs),
             alloc,
         })
     }
@@ -93,7 +94,7 @@ impl Pending {
         ensures len { result ≡ rasp_length self.now }
         ensures limit { result ≤ max_runes }
     {
-        blocks::rasp_len(self.runs.as_slice())
+        blocks::rasp_len(&self.runs)
     }
 
     /// Returns how many members (runes and gaps) are shown.
@@ -102,7 +103,7 @@ impl Pending {
         ensures len { result ≡ shown_length self.now }
         ensures cells { (r : PartialText) → IsOver r self.now → length (shown_of (cells_over r self.now)) ≡ result }
     {
-        blocks::shown_len(self.runs.as_slice())
+        blocks::shown_len(&self.runs)
     }
 
     /// Returns how many runes wait, those that a later group removes among them.
@@ -112,7 +113,7 @@ impl Pending {
         ensures cells { (r : PartialText) → length (waiting_of (cells_over r self.now)) ≡ result }
         ensures limit { result ≤ max_runes }
     {
-        blocks::waiting_len(self.runs.as_slice())
+        blocks::waiting_len(&self.runs)
     }
 
     /// Returns whether nothing waits: then the rasp is shown.
@@ -121,7 +122,7 @@ impl Pending {
         ensures value { result ≡ rests (runs_of self.now) }
         ensures rests { IsTrue result → (r : PartialText) → IsOver r self.now → cells_over r self.now ≡ resting r }
     {
-        blocks::rest(self.runs.as_slice())
+        blocks::rest(&self.runs)
     }
 
     /// Returns the newest group that waits; 0 if none does.
@@ -130,7 +131,7 @@ impl Pending {
         ensures value { result ≡ newest_group self.now }
         ensures cells { (r : PartialText) → All (IsNewest result) (cells_over r self.now) }
     {
-        blocks::newest(self.runs.as_slice())
+        blocks::newest(&self.runs)
     }
 
     /// Puts `runes` in the place of what is shown from place `p` to place `q`, in that group, which is not older than `newest`. They stand
@@ -198,14 +199,14 @@ impl Pending {
     fn tidy(&mut self)
         ensures { IsTidied self.old self.new }
     {
-        let waiting = blocks::waiting_len(self.runs.as_slice()) as usize;
+        let waiting = blocks::waiting_len(&self.runs) as usize;
         if self.text.len() <= 2 * waiting + SPARE {
             return;
         }
         let made = blocks::kept(self.alloc, self.text.as_slice(), self.runs.as_slice());
         if let Ok((text, runs)) = made {
             self.text = text;
-            self.runs = runs;
+            self.runs = Blocks::new(self.alloc, runs);
         }
     }
 
@@ -224,14 +225,14 @@ impl Pending {
         ensures position { (result ≡ Err PendingFault.BadPosition) ↔ (rasp_length self.now < p) }
         ensures long { (result ≡ Err PendingFault.TooLong) ↔ ((p ≤ rasp_length self.now) × (max_runes < rasp_length self.now + count)) }
     {
-        let len = blocks::rasp_len(self.runs.as_slice());
+        let len = blocks::rasp_len(&self.runs);
         if p > len {
             return Err(PendingFault::BadPosition);
         }
         if count > MAX_RUNES - len {
             return Err(PendingFault::TooLong);
         }
-        let (place, change) = frames::inserted(self.alloc, self.runs.as_slice(), p, count)?;
+        let (place, change) = frames::inserted(self.alloc, &self.runs, p, count)?;
         Ok((place, change))
     }
 
@@ -251,10 +252,10 @@ impl Pending {
         ensures position { (result ≡ Err PendingFault.BadPosition) ↔ ((q < p) ⊎ (rasp_length self.now < q)) }
         ensures err { OnErr result ((result ≡ Err PendingFault.BadPosition) ⊎ (result ≡ Err PendingFault.OutOfMemory)) }
     {
-        if p > q || q > blocks::rasp_len(self.runs.as_slice()) {
+        if p > q || q > blocks::rasp_len(&self.runs) {
             return Err(PendingFault::BadPosition);
         }
-        let (told, change) = frames::removed(self.alloc, self.runs.as_slice(), p, q)?;
+        let (told, change) = frames::removed(self.alloc, &self.runs, p, q)?;
         Ok((told, change))
     }
 
@@ -263,7 +264,7 @@ impl Pending {
     pub fn place_at(&self, group: u32, p: u32) -> u32
         ensures { (r : PartialText) → IsOver r self.now → result ≡ place_at group p (cells_over r self.now) }
     {
-        places::place_at(self.runs.as_slice(), group, p)
+        places::place_at(&self.runs, group, p)
     }
 
     /// Returns where a place, of the text that a request of the group comes to, goes as the host removes `count` members of the rasp from
@@ -273,7 +274,7 @@ impl Pending {
         ensures { (r : PartialText) → IsOver r self.now
             → result ≡ place_after_removal group p (p + count) place (cells_over r self.now) }
     {
-        places::place_after_removal(self.runs.as_slice(), group, place, p, count)
+        places::place_after_removal(&self.runs, group, place, p, count)
     }
 
     /// Returns where a place, of the text that a request of the group comes to, goes as `drop_next` takes runes back: as many to the front
@@ -281,7 +282,7 @@ impl Pending {
     pub fn place_after_drop(&self, up_to: Option<u32>, group: u32, place: u32) -> u32
         ensures { result ≡ place - lost_in up_to group place (runs_of self.now) }
     {
-        places::place_after_drop(self.runs.as_slice(), up_to, group, place)
+        places::place_after_drop(&self.runs, up_to, group, place)
     }
 
     /// Makes a change of the host's that was prepared, of this layer as it is now. It takes no memory.
@@ -341,11 +342,11 @@ impl Pending {
         ensures position { (result ≡ Err PendingFault.BadPosition) ↔ (rasp_length self.now < p + count) }
         ensures err { OnErr result ((result ≡ Err PendingFault.BadPosition) ⊎ (result ≡ Err PendingFault.OutOfMemory)) }
     {
-        let len = blocks::rasp_len(self.runs.as_slice());
+        let len = blocks::rasp_len(&self.runs);
         if p > len || count > len - p {
             return Err(PendingFault::BadPosition);
         }
-        let told = frames::loaded(self.alloc, self.runs.as_slice(), p, count)?;
+        let told = frames::loaded(self.alloc, &self.runs, p, count)?;
         Ok(told)
     }
 
@@ -357,7 +358,7 @@ impl Pending {
         ensures all { (up_to ≡ None) → (result ≡ false) ↔ IsTrue (rests (runs_of self.now)) }
         ensures cells { (g : ℕ) → up_to ≡ Some g → SaysLeft g self.now result }
     {
-        blocks::has_next(self.runs.as_slice(), up_to)
+        blocks::has_next(&self.runs, up_to)
     }
 
     /// Returns the next edit by which what waits comes to the rasp, of the groups up to a limit, or of any group; `None` if none of them
@@ -377,7 +378,7 @@ impl Pending {
         if self.made_len(up_to) > MAX_RUNES {
             return Err(PendingFault::TooLong);
         }
-        let runs = self.runs.as_slice();
+        let runs = &self.runs;
         let deed = blocks::next_deed(runs, up_to);
         let Some((run, at)) = blocks::first_due(runs, deed) else {
             return Ok(None);
@@ -391,7 +392,7 @@ impl Pending {
     fn made_len(&self, up_to: Option<u32>) -> u32
         ensures { result ≡ rasp_length (next_made up_to self.now) }
     {
-        let runs = self.runs.as_slice();
+        let runs = &self.runs;
         blocks::made_len(runs, blocks::next_deed(runs, up_to))
     }
 
@@ -406,8 +407,8 @@ impl Pending {
         ensures groups { (g : ℕ) (r : PartialText) (e : Edit) → up_to ≡ Some g → IsOver r self.old → next_edit up_to self.old ≡ Some e
             → IsMadeBy g (cells_over r self.old) (edit_change e) (cells_over (put r (edit_change e)) self.new) }
     {
-        let deed = blocks::next_deed(self.runs.as_slice(), up_to);
-        blocks::make_first(&mut self.runs, deed);
+        let deed = blocks::next_deed(&self.runs, up_to);
+        self.runs.make_first(deed);
     }
 
     /// Takes back the runes of the next edit of the groups up to that limit, for which the host left no room in the rasp: they are in no
@@ -425,12 +426,12 @@ impl Pending {
         if self.made_len(up_to) <= MAX_RUNES {
             return Ok(None);
         }
-        let runs = self.runs.as_slice();
+        let runs = &self.runs;
         let Some((run, place)) = blocks::first_typed(runs, up_to) else {
             unreachable!()
         };
         let edit = due::edit_at(self.alloc, self.text.as_slice(), run, 0)?;
-        blocks::take_first(&mut self.runs, up_to);
+        self.runs.take_first(up_to);
         Ok(Some(Dropped {
             place,
             count: run.shown(),
@@ -446,7 +447,7 @@ impl Pending {
             → (0 < length (shown_members r x))
             × (take (length (shown_members r x)) (drop place (shown_of (cells_over r self.now))) ≡ shown_members r x)) }
     {
-        let (run, at) = blocks::shown_run(self.runs.as_slice(), place)?;
+        let (run, at) = blocks::shown_run(&self.runs, place)?;
         Some(runs::part_of(self.text.as_slice(), run, at))
     }
 }

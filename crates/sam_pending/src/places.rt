@@ -2,19 +2,36 @@
 
 ghost use Rattle.std.specs.Prelude.{◌≡◌, ◌≤◌, ◌<◌, ◌+◌, ◌-◌, ◌^◌};
 ghost use Rattle.sam_pending.specs.Blocks.{flat};
-ghost use Rattle.sam_pending.specs.Runs.{before_place, gone_in, lost_in, passed, place_in, room, rooms, size, wait, waits};
+ghost use Rattle.sam_pending.specs.Runs.{before_place, gone_in, lost_in, passed, place_in, room, rooms, wait, waits};
 
 use crate::block::Block;
+use crate::blocks::Blocks;
+use crate::marks::Stop;
 use crate::run::{Deed, Run};
 
 /// Returns the place of that text at a place of the rasp.
-pub(crate) fn place_at(blocks: &[Block], group: u32, place: u32) -> u32
+pub(crate) fn place_at(blocks: &Blocks, group: u32, place: u32) -> u32
     requires { rooms (flat blocks.now) + waits (flat blocks.now) < 2 ^ 32 }
     ensures { result ≡ place_in group place (flat blocks.now) }
+{
+    let (start, sums) = blocks.pass(Stop::Kept(group, place));
+    let others = &blocks.as_slice()[start..];
+    sums.shown_len + place_behind(others, group, place - sums.rasp_len)
+}
+
+/// Returns how many cells of the blocks stand in that text before a place of the rasp which is so many members further on.
+#[tactic(auto, using(crate::proofs::PassLaws::place_facts))]
+fn place_behind(blocks: &[Block], group: u32, place: u32) -> u32
+    requires { rooms (flat blocks.now) + waits (flat blocks.now) < 2 ^ 32 }
+    ensures before { result ≡ place_in group place (flat blocks.now) }
+    ensures most { result ≤ rooms (flat blocks.now) + waits (flat blocks.now) }
 {
     let mut left = place;
     let mut before = 0;
     for block in blocks {
+        if left == 0 {
+            return before;
+        }
         before += place_in(block, group, left);
         left = left.saturating_sub(block.rasp_len());
     }
@@ -67,14 +84,25 @@ fn before_place(run: Run, group: u32, left: u32) -> u32
 }
 
 /// Returns where a place of that text goes as `count` members of the rasp are removed, from place `p` on.
-#[tactic(auto, using(crate::proofs::PassLaws::gone_facts))]
 pub(crate) fn place_after_removal(
-    blocks: &[Block],
+    blocks: &Blocks,
     group: u32,
     place: u32,
     p: u32,
     count: usize,
 ) -> u32
+    requires { rooms (flat blocks.now) + waits (flat blocks.now) < 2 ^ 32 }
+    ensures { result ≡ place - gone_in group p count place (flat blocks.now) }
+{
+    let (start, sums) = blocks.pass(Stop::Gone(group, place, p));
+    let others = &blocks.as_slice()[start..];
+    let left = place - sums.shown_len;
+    sums.shown_len + behind_removal(others, group, left, p - sums.rasp_len, count)
+}
+
+/// As `place_after_removal`, block by block.
+#[tactic(auto, using(crate::proofs::PassLaws::gone_facts))]
+fn behind_removal(blocks: &[Block], group: u32, place: u32, p: u32, count: usize) -> u32
     ensures { result ≡ place - gone_in group p count place (flat blocks.now) }
 {
     let mut after = place;
@@ -104,12 +132,32 @@ pub(crate) fn place_after_removal(
 }
 
 /// Returns where a place of that text goes as the first run is taken back whose runes are due, of the groups up to a limit.
+pub(crate) fn place_after_drop(blocks: &Blocks, up_to: Option<u32>, group: u32, place: u32) -> u32
+    requires { rooms (flat blocks.now) + waits (flat blocks.now) < 2 ^ 32 }
+    ensures { result ≡ place - lost_in up_to group place (flat blocks.now) }
+{
+    let (start, sums) = blocks.pass(Stop::Lost(up_to, group, place));
+    let others = &blocks.as_slice()[start..];
+    sums.shown_len + behind_drop(others, up_to, group, place - sums.shown_len)
+}
+
+/// As `place_after_drop`, block by block.
 #[tactic(auto, using(crate::proofs::PassLaws::lost_facts))]
-pub(crate) fn place_after_drop(blocks: &[Block], up_to: Option<u32>, group: u32, place: u32) -> u32
+fn behind_drop(blocks: &[Block], up_to: Option<u32>, group: u32, place: u32) -> u32
     ensures { result ≡ place - lost_in up_to group place (flat blocks.now) }
 {
     let mut left = place;
     for block in blocks {
+        if left == 0 {
+            return place;
+        }
+        if !block.has_due(Deed::Inserts(up_to))
+            && block.newest() <= group
+            && block.shown_len() <= left
+        {
+            left -= block.shown_len();
+            continue;
+        }
         let runs = block.runs();
         for run in runs {
             let passed = passed(*run, group, left);

@@ -1,7 +1,7 @@
 //! Lists of runs: what the user does, and what a frame of the host does.
 
-ghost use Rattle.std.specs.Prelude.{◌≡◌, ◌≤◌, ◌<◌, ◌+◌, ◌-◌, ◌^◌, ◌++◌, [], ◌∷◌, List, ℕ, length, IfOk, OnOk, None, Some};
-ghost use Rattle.sam_pending.specs.Runs.{front, back, rooms, waits, waiting_run, waiting_runs, dying_run, dying_runs, above, gone_run, gone_runs, filled_run, filled_runs, newest_of, rests, reach, Within, size, IsSame, kept_run, kept_runs, kept_text, runes_of, spot};
+ghost use Rattle.std.specs.Prelude.{◌≡◌, ◌≤◌, ◌<◌, ◌+◌, ◌^◌, ◌++◌, [], ◌∷◌, List, length, IfOk, OnOk, None};
+ghost use Rattle.sam_pending.specs.Runs.{front, back, rooms, waits, waiting_runs, dying_run, dying_runs, above, gone_run, gone_runs, filled_run, filled_runs, newest_of, reach, Within, IsSame, kept_run, kept_runs, kept_text, spot};
 ghost use Rattle.sam_pending.specs.Cells.{PartialText};
 ghost use Rattle.sam_pending.specs.Layers.{most_kept, shown_members, part_members};
 ghost use Rattle.sam_pending.specs.declared.run.Run.{Run};

@@ -1,6 +1,7 @@
 //! What calls of `Pending` tell their caller.
 
 use crate::block::Block;
+use crate::marks::Mark;
 use sam_runes::Runes;
 use std::marker::Model;
 
@@ -14,19 +15,23 @@ pub struct Prepared {
     pub(crate) count: usize,
     /// The blocks that come in their place.
     pub(crate) made: Vec<Block>,
-    /// An empty list, which has room for all blocks as they will be, and as they are.
+    /// For how many blocks there is room where others come than go.
+    pub(crate) most: usize,
+    /// An empty list, which has that room.
     pub(crate) room: Vec<Block>,
+    /// An empty list, which has room for the marks of so many blocks.
+    pub(crate) marks: Vec<Mark>,
 }
 
 impl Model for Prepared {
-    ghost use Rattle.std.specs.Prelude.{◌≡◌, vec_capacity, vec_len};
+    ghost use Rattle.std.specs.Prelude.{◌≡◌, ◌≤◌, ◌⊎◌, vec_capacity, vec_len};
     ghost use Rattle.sam_pending.specs.Blocks.{BlockChange};
 
     ghost Value = { BlockChange };
 
-    ghost view = { λ s. record { first = s.first; count = s.count; made = s.made.items; room = vec_capacity s.room } };
+    ghost view = { λ s. record { first = s.first; count = s.count; made = s.made.items; room = s.most } };
 
-    ghost invariant = { λ s. vec_len s.room ≡ 0 };
+    ghost invariant = { λ s. (vec_len s.room ≡ 0) × (vec_len s.marks ≡ 0) × ((vec_len s.made ≡ s.count) ⊎ (s.most ≤ vec_capacity s.room)) };
 }
 
 /// A removal: what stands from place `p` to place `q` goes.

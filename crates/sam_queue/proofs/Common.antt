@@ -14,7 +14,7 @@ pub use Rattle.sam_queue.specs.Marks.{Marks}
 pub use Rattle.sam_queue.specs.Ports.{HasAllPosts, HasNoPosts, IsRest, maker, post_in, received_of, seen_in, sent_of, take_in, taken_in, took_all, with_posts}
 pub use Rattle.sam_queue.specs.Rule.{Fits, FitsTake, Fresh, Ruled, Stands, State, Takes, Tells, Whole, closed_with, first_port, next_post, put_with, received_with, with_entry, with_made, with_post, with_sender}
 pub use Rattle.sam_queue.specs.Sorts.{IsRoom, IsSorted, IsSortedInto}
-pub use Rattle.sam_queue.specs.Views.{CanBeFull, LineSizes, LineView, PostView, TakeView, new_post, new_posts}
+pub use Rattle.sam_queue.specs.Views.{CanBeFull, LineSizes, LineView, PostView, TakeView, new_post}
 pub use Rattle.sam_queue.specs.declared.rule.Entry.{Entry}
 pub use Rattle.sam_queue.specs.declared.rule.Port.{Port}
 pub use Rattle.sam_queue.specs.declared.rule.Port.TheVariants.{Receives, Sends, Spent}

@@ -7,10 +7,6 @@ module _ {A : Type 0} where
   there (x ∷ xs) zero less = (x, refl)
   there (x ∷ xs) (suc i) less = there xs i (omega arith)
 
-  pub get_snoc : (l : List A) (a b : A) (k : ℕ) → slice_get (l ++ a ∷ []) k ≡ Some b → (slice_get l k ≡ Some b) ⊎ (a ≡ b)
-  get_snoc (x ∷ xs) a b (suc k) e = get_snoc xs a b k e
-  get_snoc l a b k e = grind arith
-
   pub get_between : (xs : List A) (x : A) (ys : List A) → slice_get (xs ++ x ∷ ys) (length xs) ≡ Some x
   get_between [] x ys = refl
   get_between (z ∷ xs) x ys = get_between xs x ys

@@ -1,15 +1,9 @@
 -- What is left, sorted by sender into lists that have room for it.
-use Rattle.sam_queue.proofs.Common.{◌≡◌, ℕ, ◌<◌, ◌≤◌, List, [], ◌∷◌, ◌++◌, length, set, Option, Some, None, slice_get, All, Vec, vec_capacity, filter_map, ap, ◌∙◌, append-nil, length-append, arith, Global, Contains-append_right, filter_map-append, Entry, loads, items_of, IsRoom, IsSortedInto}
+use Rattle.sam_queue.proofs.Common.{◌≡◌, ℕ, ◌<◌, ◌≤◌, List, [], ◌∷◌, ◌++◌, length, set, Option, Some, None, slice_get, All, Vec, vec_capacity, filter_map, ap, ◌∙◌, append-nil, length-append, arith, Global, Contains-append_right, filter_map-append, Entry, loads, items_of, IsSortedInto}
 use Rattle.sam_queue.proofs.Histories.{loads-append}
-use Rattle.sam_queue.proofs.Lists.{get_snoc, get_set}
+use Rattle.sam_queue.proofs.Lists.{get_set}
 
 module _ {T : Type 0} where
-  pub room_none : (n : ℕ) → IsRoom {T = T} n []
-  room_none n k v e = cc
-
-  pub room_more : (n : ℕ) (left : List (Vec T Global)) (v : Vec T Global) → IsRoom n left → v.items ≡ [] → n ≤ vec_capacity v → IsRoom n (left ++ v ∷ [])
-  room_more n left v room none long k u e = grind (arith, get_snoc)
-
   pub items_of-append : (k : ℕ) (xs ys : List (Entry T)) → items_of k (xs ++ ys) ≡ items_of k xs ++ items_of k ys
   items_of-append k xs ys = ap (λ l. filter_map (λ x. x) l) (loads-append k xs ys) ∙ filter_map-append (λ x. x) (loads k xs) (loads k ys)
 

@@ -1,5 +1,5 @@
 //! Audits: what is left in a line once all its ends are back in one hand.
-ghost use Rattle.std.specs.Prelude.{◌≡◌, ◌+◌, ◌^◌, ◌<◌, ◌≤◌, [], ◌++◌, length, map, All, IfOk, IfErr, vec_capacity};
+ghost use Rattle.std.specs.Prelude.{◌≡◌, ◌^◌, ◌<◌, ◌≤◌, [], length, map, All, IfOk, IfErr, vec_capacity};
 ghost use Rattle.crossbeam_queue.specs.Passes.{view, IsSamePass};
 ghost use Rattle.sam_queue.specs.History.{IsEnded};
 ghost use Rattle.sam_queue.specs.Audits.{AllAccounted, HasHistory, ArePostsOf};

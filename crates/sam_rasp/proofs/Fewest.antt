@@ -50,9 +50,6 @@ gap-packs xs h = grind (arith, h, follows-hole)
 whole-text : (s : List ℕ) → nat_lt (length s) most_in_message ≡ false → length s ≤ most_in_message → length s ≡ most_in_message
 whole-text s e l = grind (arith, e, l)
 
-text-fits : (s : List ℕ) → nat_lt (length s) most_in_message ≡ true → length s < most_in_message
-text-fits s e = grind (arith, e)
-
 rune-packs : (c : ℕ) (xs : List Section) → ArePacked xs → ArePacked (one_rune c xs)
 rune-packs c xs h = grind (arith, h, follows-text)
 

@@ -10,7 +10,7 @@ use Rattle.sam_rasp.specs.Counting.{IsWithin, minus, reached}
 use Rattle.sam_rasp.specs.declared.tally.Measure.{Measure}
 use Rattle.sam_rasp.specs.declared.tally.Measure.TheVariants.{Newlines}
 use Rattle.sam_rasp.specs.declared.tally.Tally.{Tally}
-use Rattle.sam_rasp.proofs.Tallies.{counted, front-tally, measure-append, reached-all, reached-inside, reached-most, reached-within, runes-append, tally-append, tally-fits}
+use Rattle.sam_rasp.proofs.Tallies.{counted, front-tally, measure-append, reached-all, reached-inside, reached-within, runes-append}
 
 -- ## Between two places
 

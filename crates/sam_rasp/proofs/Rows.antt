@@ -1,5 +1,5 @@
 -- Lists of parts: what one of them stands for, between those before it and those after it.
-use Rattle.sam_rasp.proofs.Common.{◌≡◌, refl, sym, ap, ◌∙◌, subst, ℕ, zero, suc, ◌+◌, ◌-◌, ◌≤◌, ◌<◌, List, [], ◌∷◌, ◌++◌, take, drop, length, get_or, set, insert, arith, take-append-drop, drop_all, length-take, length-drop, append-nil, append_assoc, length-append, flat_map-append, Bool, ◌↔◌, Agrees, PartialText, most_kept, part, del, ins, size, cells, Section, drop-drop, is_sort, prefix_len, max, min, length-replicate, Option, None, ◌⊎◌, inl, inr, true, false, drop-append-le, take-append-le}
+use Rattle.sam_rasp.proofs.Common.{◌≡◌, refl, sym, ap, ◌∙◌, subst, ℕ, zero, suc, ◌+◌, ◌-◌, ◌≤◌, ◌<◌, List, [], ◌∷◌, ◌++◌, take, drop, length, get_or, set, insert, arith, take-append-drop, drop_all, length-take, length-drop, append-nil, append_assoc, length-append, flat_map-append, Bool, ◌↔◌, Agrees, PartialText, most_kept, part, del, ins, size, cells, Section, is_sort, prefix_len, max, min, length-replicate, Option, None, ◌⊎◌, inl, inr, true, false, drop-append-le, take-append-le}
 use Rattle.std.specs.Prelude.{remove}
 use Rattle.std.proofs.lemmas.List.{take_all, take_rest, take_more, take_more_set, set_split}
 use Rattle.sam_rasp.specs.Rasp.{put_cells, sort_from, sort_before}

@@ -305,14 +305,6 @@ before-here a o w t s n p e l f k =
     let sum : plus t s ≡ tally_of (take p w) = ap (plus t) (e ∙ ap tally_of (sym (take-append-le n a o l))) ∙ f in
     (subst Fits (sym sum) (tally-fits (take p w) (omega (arith, length-take p w, k))), sum)
 
-plus-none : (t : Tally) → t ≡ plus t (tally_of [])
-plus-none t =
-    tally-is t.gaps t.bytes t.units t.newlines (t.gaps + 0) (t.bytes + 0) (t.units + 0) (t.newlines + 0) (omega arith) (omega arith) (omega arith) (omega arith)
-
-pub before-end : (w : PartialText) (t : Tally) (n : ℕ) → plus t (tally_of (take n [])) ≡ tally_of w → t ≡ tally_of w
-before-end w t zero e = plus-none t ∙ e
-before-end w t (suc n) e = plus-none t ∙ e
-
 -- ## How far a count reaches
 
 -- one of the counts of a tally
@@ -320,19 +312,6 @@ pub counted : (m : Measure) (r : PartialText) (t : Tally) → t ≡ tally_of r �
 counted Bytes r t e = ap (λ z. z.bytes) e
 counted Units r t e = ap (λ z. z.units) e
 counted Newlines r t e = ap (λ z. z.newlines) e
-
-rest-is : (s : List ℕ) (i c : ℕ) → i < length s → c ≡ get_or s i c → drop i s ≡ c ∷ drop (i + 1) s
-rest-is [] i c l e = absurd (omega (arith, l))
-rest-is (x ∷ s) zero c l e = ap (λ z. z ∷ s) (sym e)
-rest-is (x ∷ s) (suc i) c l e =
-    let next : suc (i + 1) ≡ suc i + 1 = omega arith in rest-is s i c (omega (arith, l)) e ∙ ap (λ n. c ∷ drop n (x ∷ s)) next
-
-pub reached-step : (m : Measure) (s : List ℕ) (i c n : ℕ) → i < length s → c ≡ get_or s i c → taken m c ≤ n
-    → reached m (map Some (drop i s)) n ≡ 1 + reached m (map Some (drop (i + 1) s)) (n - taken m c)
-reached-step m s i c n l e u = ap (λ z. reached m (map Some z) n) (rest-is s i c l e) ∙ grind (arith, u)
-
-pub reached-stop : (m : Measure) (s : List ℕ) (i c n : ℕ) → i < length s → c ≡ get_or s i c → n < taken m c → reached m (map Some (drop i s)) n ≡ 0
-reached-stop m s i c n l e u = ap (λ z. reached m (map Some z) n) (rest-is s i c l e) ∙ grind (arith, u)
 
 pub reached-end : (m : Measure) (s : List ℕ) (i n : ℕ) → length s ≤ i → reached m (map Some (drop i s)) n ≡ 0
 reached-end m s i n l = ap (λ z. reached m (map Some z) n) (drop_all i s l)

@@ -1,6 +1,6 @@
 //! `Row`: parts in order, next to each other in memory.
 
-ghost use Rattle.std.specs.Prelude.{◌≡◌, ◌≢◌, ◌<◌, ◌≤◌, ◌+◌, IfOk, MatchOption, OnErr, Ok, None, length, take, drop, true, false};
+ghost use Rattle.std.specs.Prelude.{◌≡◌, ◌≢◌, ◌<◌, ◌≤◌, ◌+◌, IfOk, MatchOption, OnErr, Ok, None, length, take, drop};
 ghost use Rattle.sam_runes.specs.Texts.{del, part};
 ghost use Rattle.sam_rasp.specs.Counting.{CanComeIn};
 ghost use Rattle.sam_rasp.specs.Rasp.{put_cells};

@@ -1,7 +1,7 @@
 //! `Section`: a stretch of a rasp, either a loaded text or a hole.
 
-ghost use Rattle.std.specs.Prelude.{◌≡◌, ◌≢◌, ◌<◌, ◌≤◌, ◌+◌, ◌-◌, ◌++◌, ◌↔◌, IsTrue, IfOk, OnErr, Ok, length, slice_get, take, drop, true, false, Some};
-ghost use Rattle.sam_runes.specs.Texts.{del, max_runes, part};
+ghost use Rattle.std.specs.Prelude.{◌≡◌, ◌≢◌, ◌<◌, ◌≤◌, ◌+◌, ◌++◌, ◌↔◌, IsTrue, IfOk, OnErr, Ok, length, slice_get, take, drop, true, false, Some};
+ghost use Rattle.sam_runes.specs.Texts.{max_runes, part};
 ghost use Rattle.sam_rasp.specs.Rasp.{put_cells, Agrees};
 ghost use Rattle.sam_rasp.specs.Counting.{CanComeIn};
 ghost use Rattle.sam_rasp.specs.Rows.{incoming_cells, most_kept};

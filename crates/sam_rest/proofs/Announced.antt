@@ -1,5 +1,5 @@
 -- A file that is not announced after an answer was there before it, and not announced.
-use Rattle.std.proofs.Common.{◌≡◌, ℕ, suc, ◌+◌, ◌-◌, Bool, true, false, not, ◌&&◌, ◌||◌, if◌then◌else◌, ◌==◌, List, [], ◌∷◌, ◌++◌, length, Option, Some, None, refl, sym, ap, ◌∙◌, subst, arith, is_some, option_map, option_and_then, unwrap_or}
+use Rattle.std.proofs.Common.{◌≡◌, ℕ, suc, ◌+◌, ◌-◌, Bool, true, false, not, ◌&&◌, ◌||◌, if◌then◌else◌, ◌==◌, List, [], ◌∷◌, ◌++◌, length, Option, Some, None, refl, sym, ap, ◌∙◌, subst, arith, is_some, option_map, unwrap_or}
 use Rattle.std.specs.Prelude.{nat_le, nat_lt}
 use Rattle.sam_runes.specs.Slots.{Slots, slot}
 use Rattle.sam_runes.specs.Texts.{Range, all_tags, as_lines, ends_line, is_empty, last_line, max_runes, part, searched, word_at}
@@ -9,7 +9,7 @@ use Rattle.sam_text.specs.Files.{PlainFile, PlainFiles, blank_file, file_at, has
 use Rattle.sam_text.specs.Files.{dirty_file}
 use Rattle.sam_text.specs.Meaning.{meaning}
 use Rattle.sam_host.specs.Marking.{marked}
-use Rattle.sam_crossing.proofs.Dirt.{work_there}
+use Rattle.sam_crossing.proofs.DirtyFiles.{work_there}
 use Rattle.sam_mesg.specs.declared.tmesg.Tmesg.{Tmesg}
 use Rattle.sam_mesg.specs.declared.tmesg.Tmesg.TheVariants.{Tversion, Tstartcmdfile, Tstartfile, Tworkfile, Ttype, Tcut, Tpaste, Tstartnewfile, Twrite, Tclose, Tlook, Tsearch, Tsend, Tdclick}
 use Rattle.sam_host.specs.declared.fault.HostFault.{HostFault}

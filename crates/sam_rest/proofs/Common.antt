@@ -20,4 +20,3 @@ pub use Rattle.sam_term.specs.declared.event.UserEvent.{UserEvent}
 pub use Rattle.sam_term.specs.declared.event.Verdict.{Verdict}
 pub use Rattle.sam_term.specs.declared.fault.TermFault.{TermFault}
 pub use Rattle.sam_world.specs.Drain.{next_event}
-pub use Rattle.sam_world.specs.Faults.{Advances, IsNextFault}

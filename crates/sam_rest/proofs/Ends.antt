@@ -262,9 +262,6 @@ pub kept-of : (w : PlainWorld) → WasReached w → IsKept w
 kept-of w r =
     run_keeps IsKept keeps-step (new_world r.given) r.reached.0 w (record { order = starts_in_order r.given r.limits; awaited = λ f. refl; joined = λ more few f. refl }) r.reached.1
 
-pub kept-on : (w : PlainWorld) (e : Event) (next : PlainWorld) → IsKept w → Applies w e next → IsKept next
-kept-on w e next k a = keeps-step w e next k a.stepped
-
 -- ## A step that changes something
 
 -- there is less to do, or fewer events are held

@@ -13,6 +13,8 @@ pub mod Ends
 pub mod Done
 pub mod Rule
 pub mod Drains
+pub mod LoadedViews
+pub mod LoadedFrames
 pub mod Loaded
 pub mod TermNames
 pub mod HostNames

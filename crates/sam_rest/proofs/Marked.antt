@@ -1,16 +1,16 @@
 -- A file that is marked: the same requests are awaited, and the same names are told.
-use Rattle.sam_crossing.proofs.Common.{◌≡◌, ℕ, ◌==◌, ◌<◌, Bool, true, false, List, [], ◌∷◌, ◌++◌, Option, refl, sym, ap, ◌∙◌, subst, true≢false, map-append, Tmesg, Hmesg, Hdirty, PlainHost, Reply, stamped, PlainTerminal, window_at, Action, Needs_known, action, only, at_file, answers, InOrder}
+use Rattle.sam_crossing.proofs.Common.{◌≡◌, ℕ, ◌==◌, Bool, true, false, List, [], ◌∷◌, ◌++◌, Option, refl, sym, ap, ◌∙◌, subst, true≢false, map-append, Tmesg, Hmesg, Hdirty, PlainHost, Reply, PlainTerminal, window_at, Action, Needs_known, action, only, at_file, InOrder}
 use Rattle.sam_host.specs.Host.{told_dirty}
 use Rattle.sam_host.specs.Marking.{mark_frames, marked}
 use Rattle.sam_mesg.specs.declared.hmesg.HFrame.{HFrame}
 use Rattle.sam_crossing.specs.World.{PlainWorld, mesgs}
-use Rattle.sam_crossing.proofs.Dirt.{Fewer, fewer-append, fewer-same}
+use Rattle.sam_crossing.proofs.DirtyFiles.{Fewer, fewer-append, fewer-same}
 use Rattle.sam_crossing.proofs.Known.{IsShown}
 use Rattle.sam_crossing.proofs.Marking.{marks_answers, mark_less, only_at}
 use Rattle.sam_crossing.proofs.Ordered.{mesgs_stamped}
 use Rattle.std.proofs.Common.{inl, inr}
 use Rattle.sam_rest.proofs.Actions.{AwaitsAll, is_fill, left}
-use Rattle.sam_rest.proofs.Kept.{AreAwaited, answers-up, coming_to, frames_of}
+use Rattle.sam_rest.proofs.Kept.{AreAwaited, answers-up, frames_of}
 
 -- the frames that are under way behind a mark
 pub mark-frames : (w : PlainWorld) (f : ℕ) → mesgs (w.down ++ mark_frames w.host f) ≡ mesgs w.down ++ told_dirty w.host.files f

@@ -1,6 +1,6 @@
 -- A drain's rule without its limit: each event of it applies, and a number falls.
 use Rattle.std.proofs.Common.{true≢false}
-use Rattle.sam_rest.proofs.Common.{◌≡◌, ℕ, zero, suc, ◌+◌, ◌<◌, ◌≤◌, Bool, true, false, not, List, [], ◌∷◌, ◌++◌, length, is_some, Option, Some, None, ◌⊎◌, inl, inr, same_Some, refl, sym, ap, ◌∙◌, subst, arith, is_empty, UserEvent, PlainWorld, step_of, next_event, IsInOrder}
+use Rattle.sam_rest.proofs.Common.{◌≡◌, ℕ, zero, suc, ◌+◌, ◌<◌, ◌≤◌, Bool, true, false, not, List, length, is_some, Option, Some, None, ◌⊎◌, inl, inr, same_Some, refl, sym, ap, ◌∙◌, subst, arith, is_empty, UserEvent, PlainWorld, step_of, next_event, IsInOrder}
 use Rattle.std.proofs.Common.{if◌then◌else◌}
 unfoldable use Rattle.sam_rest.proofs.Common.{act_of}
 use Rattle.sam_term.specs.declared.records.Unsent.{Unsent}
@@ -8,7 +8,7 @@ use Rattle.sam_world.specs.Drain.{acts}
 use Rattle.sam_crossing.specs.declared.event.Event.{Event}
 use Rattle.sam_crossing.specs.declared.event.Event.TheVariants.{User, Add, Mark, Act, Flush, HostTake, TermTake}
 use Rattle.sam_crossing.proofs.OrderLaws.{steps_in_order}
-use Rattle.sam_rest.specs.Rest.{is_from_outside, Applies, LeadsOn}
+use Rattle.sam_rest.specs.Rest.{is_from_outside, Applies}
 use Rattle.sam_rest.proofs.Taking.{Idles, Acts, host-takes, term-takes, flush-takes, act-takes}
 use Rattle.sam_rest.proofs.Ends.{IsKept, IsLess, IsFewer, left_in, after-host, after-term, after-flush, after-act, keeps-step}
 
@@ -205,9 +205,3 @@ falls-by-rule w v e k n s = by e refl (does w v e k n s)
     by Flush q d = less Flush (n ∙ ap Some q) (ap (step_of w) (sym q) ∙ s) (λ fewer m. refl) (subst (λ (y : Event). Does w y v) q d)
     by HostTake q d = less HostTake (n ∙ ap Some q) (ap (step_of w) (sym q) ∙ s) (λ fewer m. refl) (subst (λ (y : Event). Does w y v) q d)
     by TermTake q d = less TermTake (n ∙ ap Some q) (ap (step_of w) (sym q) ∙ s) (λ fewer m. refl) (subst (λ (y : Event). Does w y v) q d)
-
--- ## Lists of events
-
-pub leads-more : (es : List Event) (w v u : PlainWorld) (e : Event) → LeadsOn w es v → Applies v e u → LeadsOn w (es ++ e ∷ []) u
-leads-more [] w v u e l a = (u, subst (λ (x : PlainWorld). Applies x e u) l a, refl)
-leads-more (x ∷ es) w v u e l a = (l.0, l.1, leads-more es l.0 v u e l.2 a)

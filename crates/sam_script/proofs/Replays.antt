@@ -1,5 +1,5 @@
 -- What a replay has printed, line by line.
-use Rattle.sam_script.proofs.Common.{◌≡◌, ℕ, true, List, [], ◌∷◌, ◌++◌, Option, Some, Result, Ok, Err, refl, sym, ap, ◌∙◌, subst, append_assoc, arith, PlainWorld, new_world, step_of, run_of, Event, PlainScript, Spells, IsReadFault, after_line, printed_by, stepped, after_output, replayed_from, replayed, IsReplayFault, IsStopOf, ScriptFault}
+use Rattle.sam_script.proofs.Common.{◌≡◌, ℕ, true, List, [], ◌∷◌, ◌++◌, Option, Some, Result, Ok, Err, refl, ap, ◌∙◌, subst, append_assoc, arith, PlainWorld, new_world, step_of, run_of, Event, PlainScript, Spells, IsReadFault, after_line, printed_by, stepped, after_output, replayed_from, replayed, IsReplayFault, IsStopOf, ScriptFault}
 use Rattle.std.specs.Prelude.{All}
 use Rattle.std.proofs.lemmas.List.Elements.{All-head, All-tail}
 use Rattle.sam_host.specs.Laws.{AreGiven}
@@ -10,7 +10,7 @@ use Rattle.sam_local.specs.Worlds.{HasLed, IsAsIfLocal}
 use Rattle.sam_local.proofs.Runs.{runs_are_as_if_local, runs_come_in_order}
 use Rattle.sam_world.specs.Given.{IsFile}
 use Rattle.sam_world.specs.Drain.{drained, drain_limit}
-use Rattle.sam_world.proofs.Runs.{DoesSilently, drained_runs, run_then, users_then, files_then, marks_then}
+use Rattle.sam_world.proofs.Runs.{drained_runs, run_then, users_then, files_then, marks_then}
 use Rattle.sam_script.specs.Replay.{after_lines, and_on, or_full, user_of, users_of, added_by, all_added, marked_in, all_marked, ReplaysAsIfLocal}
 use Rattle.sam_script.specs.declared.line.Line.{Line}
 use Rattle.sam_script.specs.declared.line.Line.TheVariants.{Key, Mouse, Add, Dirty, Act, Flush, Host, Term, Drain, Show}

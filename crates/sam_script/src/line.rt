@@ -14,8 +14,8 @@ use sam_term::event::UserEvent;
 use std::alloc::{AllocError, Global};
 use std::str;
 
-/// What a line of a script asks for: an event of the user, a file that joins or is marked, or another step. `file` lines and lines that say nothing are
-/// not among them. [`replay`](crate::replay) does one after another. A session of threads takes the events of the user alone.
+/// What a line of a script asks for: an event of the user, a file that joins or is marked, or another step. `file` lines and lines that say
+/// nothing are not among them. [`replay`](crate::replay) does one after another. A session of threads takes the events of the user alone.
 #[derive(Drop)]
 pub enum Line {
     /// `k`: the user does this at the keyboard, and the terminal holds it after the events that it holds already.

@@ -16,8 +16,9 @@ use std::alloc::{AllocError, Global};
 const EVENT_LINE: usize = 8;
 
 /// Returns the script that makes just these events happen, as bytes: a `file` line for each file of `script`, a line for each event, and a
-/// line `show`. Each event of the user is a `k` line, also where it was the mouse's, a file that joins is an `add` line, and one that is marked a `dirty` line. If the events
-/// are a run from these files, a replay of the bytes shows the world to which they lead. The only error is `OutOfMemory`.
+/// line `show`. Each event of the user is a `k` line, also where it was the mouse's, a file that joins is an `add` line, and one that is
+/// marked a `dirty` line. If the events are a run from these files, a replay of the bytes shows the world to which they lead. The only
+/// error is `OutOfMemory`.
 pub fn run_lines(alloc: Global, script: &Script, events: &[Event]) -> Result<Vec<u8>, ScriptFault>
     ensures lines { IfOk result (λ out. out.items ≡ run_lines_of script.now.files events.now) }
     ensures memory { IfErr result (λ why. why ≡ ScriptFault.OutOfMemory) }

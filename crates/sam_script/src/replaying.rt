@@ -1,6 +1,6 @@
 //! Replays a script: its lines are done one after another, on one thread, over a world of its files.
 
-ghost use Rattle.std.specs.Prelude.{◌≡◌, ◌++◌, Ok, Err, IfOk, IfErr, OnOk, string_bytes};
+ghost use Rattle.std.specs.Prelude.{◌≡◌, ◌++◌, Ok, IfOk, IfErr, OnOk, string_bytes};
 ghost use Rattle.sam_world.specs.Drain.{drained, drain_limit};
 ghost use Rattle.sam_script.specs.Replay.{after_line, after_output, or_full, printed_by, replayed_from, stepped, replayed, IsReplay, IsReplayFault, IsStopOf, ReplaysAsIfLocal};
 
@@ -30,8 +30,9 @@ pub fn replay_bytes(alloc: Global, bytes: &[u8]) -> Result<Vec<u8>, ScriptFault>
 /// script stays as it is, so it can be replayed again. Each event is copied before it happens; [`replay_owned`] copies none.
 ///
 /// The first line that can't be done stops it, and then nothing of what was printed is returned. The error is `Line(n)` if line n is `host`
-/// or `term` and nothing is under way to that side, `add` and all tags were given, or `dirty` and the file may not be marked; and `CountFull` if the line's step, or an event of
-/// its drain, would take a count of messages past 2^64-1. `OutOfMemory` may come at any line, and before the first.
+/// or `term` and nothing is under way to that side, `add` and all tags were given, or `dirty` and the file may not be marked; and
+/// `CountFull` if the line's step, or an event of its drain, would take a count of messages past 2^64-1. `OutOfMemory` may come at any
+/// line, and before the first.
 ///
 /// Wherever the replay stands, what was done by the lines above, but for events that are still held, has done in its order what it does in
 /// an editor without a network, with the files that joined. So where a `show` stands with nothing unsent or under way, the host and the

@@ -4,7 +4,7 @@ ghost use Rattle.std.specs.Prelude.{◌≡◌, ◌≤◌, IfErr, IfOk, OnOk, len
 ghost use Rattle.sam_runes.specs.Texts.{most_files};
 ghost use Rattle.sam_script.specs.Reading.{Adds, AddsNone};
 ghost use Rattle.sam_world.specs.Given.{IsFile};
-ghost use Rattle.sam_script.specs.Script.{PlainScript, keys_of, mouse_of, without_lines};
+ghost use Rattle.sam_script.specs.Script.{keys_of, mouse_of, without_lines};
 ghost use Rattle.sam_script.specs.Spelling.{Spells, IsReadFault};
 
 use crate::fault::{LineFault, ScriptFault};

@@ -1,11 +1,10 @@
 //! Prints the lines that show what a world is like.
 
-ghost use Rattle.std.specs.Prelude.{◌≡◌, ◌++◌, ◌<◌, ◌≤◌, drop, IfOk, OnOk, IfErr, Some, None, string_bytes, flat_map, map, option_map};
+ghost use Rattle.std.specs.Prelude.{◌≡◌, ◌++◌, ◌≤◌, drop, IfOk, OnOk, IfErr, None, string_bytes, flat_map, option_map};
 ghost use Rattle.std.specs.Prelude.{option_copied, replicate};
-ghost use Rattle.sam_runes.specs.Slots.{slot};
 ghost use Rattle.sam_rasp.specs.Sections.{cells, size};
 ghost use Rattle.sam_text.specs.Views.{plain_file};
-ghost use Rattle.sam_script.specs.Show.{host_line, term_line, host_slot, term_slot, window_line, slot_lines, state_line, show_lines};
+ghost use Rattle.sam_script.specs.Show.{host_line, term_line, host_slot, term_slot, slot_lines, state_line, show_lines};
 ghost use Rattle.sam_script.specs.Show.{lock_shown, counts_line, text_rune, name_rune, text_shown, name_shown, rasp_shown};
 
 use crate::fault::ScriptFault;

@@ -10,6 +10,9 @@ pub mod Entries
 pub mod Remaking
 pub mod Serving
 pub mod Recoveries
+pub mod ProgramStates
+pub mod ProgramTakes
+pub mod ProgramSends
 pub mod Programs
 pub mod Heirs
 pub mod Journals

@@ -72,9 +72,6 @@ follows_welcome Host a b n g (Err (welcomes.Here why)) h o x = absurd x
 follows_welcome Host a b n g (Ok done) h o x = absurd x
 follows_welcome Terminal a b n g answer h o x = absurd (two_roles h)
 
-over_of : (a b n m : End) → over n ≡ over m → n.phase ≡ Down → m.phase ≡ Down → AreLike n m
-over_of a b n m same down down_too = inr (same, down, down_too)
-
 follows_break : (t : Bool) (a b n : End) → Over a b → n ≡ (if t then ended a else a) → AreLike n (if t then ended b else b)
 follows_break true a b n o is = subst (λ k. AreLike k (ended b)) (sym is) (inr (o.same, refl, refl))
 follows_break false a b n o is = stay a b n o is

@@ -10,8 +10,8 @@ use Rattle.sam_served.specs.Programs.{Act, IsServed, LeadsProgram, Program, new_
 abbrev pub program_with : Id → List PlainFile → PlainDurableServer → Program
 program_with id files e = record (new_program id) { server = e; taken = map joining files }
 
--- The server that these files joined, as `heir` hands it out, is a program's from its beginning on: whatever calls follow, with any crashes,
--- they are a session of the definition
+-- The server that these files joined, as `heir` hands it out, is a program's from its beginning on: whatever calls follow, with any
+-- crashes, they are a session of the definition
 abbrev pub HeirsAreServed : Type 0
 HeirsAreServed =
     (id : Id) (files : List PlainFile) (e : PlainDurableServer) (acts : List Act) (p : Program)

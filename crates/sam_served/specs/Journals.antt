@@ -30,7 +30,8 @@ gone_on p count s = record p { server = recovered s; journal = take count p.jour
 
 -- Reading what is left has one answer: some first records, and where they end; what stands behind is torn. They are the file of the program
 -- that goes on, and if a server is made of their bodies, that is a crash of the program
-pub record IsCrash (id : Id) (acts : List Act) (p : Program) (random : ℕ) (es : List Entry) (answer : Result Journal ReadFault) : Type 0 where
+pub record IsCrash (id : Id) (acts : List Act) (p : Program) (random : ℕ) (es : List Entry) (answer : Result Journal ReadFault)
+    : Type 0 where
   pub count : ℕ
   pub read : answer ≡ Ok (record { random = random; count = count; end = length (file_bytes random (take count es)) })
   pub is : (s : Server) → IsJournalOf random (take count es) (gone_on p count s)

@@ -144,7 +144,8 @@ LeadsProgram id p (Break attempt ∷ acts) z =
     LeadsProgram id (record p { server = with_link p.server (broken p.server.turn.server.link attempt) }) acts z
 LeadsProgram id p (NextRecord body ∷ acts) z =
     (body ≡ slice_get p.server.records 0)
-    × LeadsProgram id (record p { server = record p.server { records = drop 1 p.server.records }; journal = p.journal ++ option_to_list body }) acts z
+    × LeadsProgram id
+    (record p { server = record p.server { records = drop 1 p.server.records }; journal = p.journal ++ option_to_list body }) acts z
 LeadsProgram id p (Durable count ∷ acts) z =
     (count + length p.server.records ≤ length p.server.gate.waiting)
     × LeadsProgram id (record p { server = durable_by p.server count }) acts z
@@ -159,8 +160,8 @@ LeadsProgram id p (Crash n ∷ acts) z =
 -- ## The law
 
 -- Any calls of the program, with any crashes, are a session of the definition: the terminal is its terminal, the records are its records,
--- on each connection the same bytes went out, and where nothing waits the server is its server. Whatever a crash leaves then, the server that is
--- made of it has the effect that is lent
+-- on each connection the same bytes went out, and where nothing waits the server is its server. Whatever a crash leaves then, the server
+-- that is made of it has the effect that is lent
 pub record IsServed (id : Id) (p : Program) : Type 0 where
   pub events : List Event
   pub served : Served

@@ -38,8 +38,9 @@ pub fn gate_is_counted()
     ensures { GateIsCounted }
 {}
 
-/// States that a gate of sam_server keeps the rule: where a server stands, there stands the one that is made of its records, so the mark that
-/// it has behind a record is that record's; and where the base of a gate is the mark of the durable records, what the gate allows may go out.
+/// States that a gate of sam_server keeps the rule: where a server stands, there stands the one that is made of its records, so the mark
+/// that it has behind a record is that record's; and where the base of a gate is the mark of the durable records, what the gate allows may
+/// go out.
 pub fn gates_keep_the_rule()
     ensures marks { MarksAreRight }
     ensures gates { GatesKeepTheRule }
@@ -70,8 +71,8 @@ pub fn served_are_one_run()
     ensures one_run { ServedAreOneRun }
 {}
 
-/// States that a program whose calls are those of `DurableServer` and `Recovery`, in any order, over connections that break, and which may be
-/// killed at any moment, is a server of the definition: so all that the laws say of its sessions holds of the program's.
+/// States that a program whose calls are those of `DurableServer` and `Recovery`, in any order, over connections that break, and which may
+/// be killed at any moment, is a server of the definition: so all that the laws say of its sessions holds of the program's.
 pub fn programs_are_served()
     ensures { ProgramsAreServed }
 {}

@@ -13,7 +13,7 @@ use Rattle.sam_link.specs.declared.hello.Hello.{Hello}
 use Rattle.sam_link.specs.declared.hello.Id.{Id}
 use Rattle.sam_link.specs.declared.phase.Role.{Role}
 use Rattle.sam_link.specs.declared.phase.Role.TheVariants.{Host, Terminal}
-use Rattle.sam_server.specs.Records.{Called, Came, Done, Joined, Marked, PlainRecord, record_bytes}
+use Rattle.sam_server.specs.Records.{Called, Came, Done, Marked, PlainRecord, record_bytes}
 use Rattle.sam_endpoint.specs.HostEndpoints.{Adds, Marks, PlainHostEndpoint, with_file}
 use Rattle.sam_server.specs.Servers.{Effect, Handles, IsPausedAt, Pauses, PutsAnswers, Server, Takes, Work, with_work}
 use Rattle.sam_server.specs.DurableServers.{Finishing, GoesOn, GoesOnNow, IsOwing, IsWell, Leads, LeadsNowhereBy, Left, LeftAt, PlainDurableServer, RefusesPiece, TakesRecord, begun, due_before, gone_to, recorded, told_of_feed}
@@ -298,11 +298,6 @@ single_takes d e t r body refuses result settled due body_is takes goes =
     taken d (gone_to d t Recording body) e t Recording r refuses result settled
     (λ i. gone_to (record d { due = sym due i }) t Recording (body_is i)) tt
     (λ z left. subst (λ (x : Server). Takes d.turn.server r x) (sym left) takes) (λ nowhere. absurd (nowhere t.server refl)) goes
-
--- a file joined
-pub joined_takes : (t u : PlainTurn) (name text : List ℕ) (tag : ℕ) → u ≡ hosted t u.server.host
-    → Adds t.server.host name text (Ok tag) u.server.host → Takes t.server (Joined name text) u.server
-joined_takes t u name text tag is adds = (tag, u.server.host, adds, ap (λ (x : PlainTurn). x.server) is)
 
 pub joined_rests : (t u : PlainTurn) (name text : List ℕ) (tag : ℕ) → IsResting t → u ≡ hosted t u.server.host
     → Adds t.server.host name text (Ok tag) u.server.host → IsResting u

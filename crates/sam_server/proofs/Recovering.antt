@@ -1,5 +1,5 @@
 -- A turn that takes a record again.
-use Rattle.std.proofs.Common.{◌≡◌, ℕ, List, true, false, Some, Option, Result, Ok, Err, refl, sym, ap, ◌∙◌, subst, arith}
+use Rattle.std.proofs.Common.{◌≡◌, ℕ, List, true, false, Some, Option, Result, Ok, Err, sym, ap, ◌∙◌, subst, arith}
 use Rattle.sam_runes.specs.Checks.{first_of_checks}
 use Rattle.sam_link.specs.Calls.{Does}
 use Rattle.sam_link.specs.Calls.Call.{Acknowledge, Ask, Feed, PutNote}
@@ -12,8 +12,6 @@ use Rattle.sam_link.specs.declared.hello.Hello.{Hello}
 use Rattle.sam_link.specs.declared.hello.Refusal.{Refusal}
 use Rattle.sam_link.specs.declared.keeping.PutFault.{PutFault}
 use Rattle.sam_link.specs.declared.keeping.PutFault.TheVariants as puts
-use Rattle.sam_link.specs.declared.phase.Phase.{Phase}
-use Rattle.sam_link.specs.declared.phase.Phase.TheVariants.{Asking, Down, Open}
 use Rattle.sam_link.specs.declared.phase.Role.{Role}
 use Rattle.sam_link.specs.declared.phase.Role.TheVariants.{Host, Terminal}
 use Rattle.sam_link.proofs.Feeds.{one_feed}
@@ -26,7 +24,7 @@ use Rattle.sam_endpoint.specs.declared.fault.AddFault.TheVariants as adds
 use Rattle.sam_server.specs.HostLinks.{Answered}
 use Rattle.sam_server.specs.Records.{Acknowledged, Asked, Called, Came, Done, Joined, Marked, Said, PlainRecord, Spells}
 use Rattle.sam_server.specs.Recovering.{Refinished, Retaken, Retakes, told_of_add, told_of_feed, told_of_mark, told_of_note, told_of_put, told_of_turn}
-use Rattle.sam_server.specs.Servers.{Server, Takes, all_given, given_at}
+use Rattle.sam_server.specs.Servers.{Server, Takes, all_given}
 use Rattle.sam_server.specs.Turns.{DroppedEffect, Finished, Finishes, IsResting, PlainTurn, hosted, linked}
 use Rattle.sam_server.specs.declared.recovery.RecoveryFault.{RecoveryFault}
 use Rattle.sam_server.specs.declared.recovery.RecoveryFault.TheVariants as fault
@@ -181,15 +179,6 @@ pub done_not : (t u : PlainTurn) (ending : ℕ) → DroppedEffect t false u → 
 done_not t u ending dropped = λ z takes. cc (sym takes.1 ∙ dropped.0)
 
 -- ## What counts as given
-
-given_waits : (p : Phase) (e : End) → (given_at p e).waiting ≡ e.waiting
-given_waits Open e = refl
-given_waits Asking e = refl
-given_waits Down e = refl
-
--- a turn that is done stays so
-pub given_rests : (t : PlainTurn) → IsResting t → IsResting (linked t (all_given t.server.link))
-given_rests t rests = linked_rests t (all_given t.server.link) (given_waits t.server.link.phase t.server.link) rests
 
 -- a record that is not taken again
 pub retakes_not : (t u v : PlainTurn) (r : PlainRecord) (bytes : List ℕ) (why : RecoveryFault)

@@ -9,9 +9,6 @@ use Rattle.sam_link.specs.Calls.{Does}
 use Rattle.sam_link.specs.Calls.Call.{Put}
 use Rattle.sam_link.specs.End.{End}
 use Rattle.sam_link.specs.Inbox.{Waiting}
-use Rattle.sam_link.specs.Keeping.{HasRoom as HasRoomToKeep}
-use Rattle.sam_link.specs.Putting.{data_stream}
-use Rattle.sam_link.specs.declared.keeping.PutFault.TheVariants as puts
 use Rattle.sam_frame.specs.Direction.{terminal}
 use Rattle.sam_frame.specs.Framing.{HasRoom, Held}
 use Rattle.sam_endpoint.specs.Streams.{Gives}
@@ -32,7 +29,7 @@ use Rattle.sam_endpoint.specs.declared.step.HostStep.{HostStep}
 use Rattle.sam_endpoint.specs.declared.step.HostStep.TheVariants as steps
 use Rattle.sam_server.specs.HostLinks.{HandsOut}
 use Rattle.sam_server.specs.Servers.{Effect, HandsOn, Hear, IsPausedAt, Pauses, PausesBy, PutsAnswers, Server, StepsOn, Work, next_effect, step_effect, waits_for, with_work}
-use Rattle.sam_server.specs.Turns.{BreaksOff, Brought, Fetched, Finished, Finishes, GoesOn, Handed, HandedNext, IsHanded, IsHolding, IsResting, IsStill, IsStillAt, MayHold, Nears, PlainTurn, Stepped, held_in, hosted, left_in, plain_effect, some_left, steps_left, told_of_bring, told_of_step, work_of}
+use Rattle.sam_server.specs.Turns.{BreaksOff, Brought, Fetched, Finished, Finishes, GoesOn, Handed, HandedNext, IsHanded, IsHolding, IsResting, IsStill, IsStillAt, Nears, PlainTurn, Stepped, held_in, hosted, left_in, plain_effect, some_left, steps_left, told_of_bring, told_of_step, work_of}
 use Rattle.sam_server.specs.declared.turn.Stop.TheVariants as stop
 use Rattle.sam_server.specs.declared.turn.TurnFault.{TurnFault}
 use Rattle.sam_server.specs.declared.turn.TurnFault.TheVariants as fault
@@ -236,9 +233,6 @@ step_broke t (Err endpoint.Unfinished) k why none quiet does told =
 step_broke t (Err endpoint.OutOfMemory) k why none quiet does told = absurd does
 step_broke t (Err endpoint.CountFull) k why none quiet does told = absurd does
 
-pub still_by_effect : (t : PlainTurn) (e : Effect) → t.server.effect ≡ Some e → IsStill t
-still_by_effect t e is = subst (λ (x : Option Effect). IsStillAt x t.server.host) (sym is) tt
-
 -- ## A packet leaves the link
 
 -- what the turn is after the link handed out what is next
@@ -290,41 +284,9 @@ fetches t u l next.Nothing buffer goes none still quiet (empty, is) =
       },
     )
 
--- none leaves it while an effect waits
-pub fetches_not : (t u : PlainTurn) (e : Effect) → GoesOn t u → t.held ≡ [] → u.server.effect ≡ Some e → Fetched t (Ok false) u
-fetches_not t u e goes none some =
-    (goes.near, record { held = goes.held ∙ none; paused = subst (λ (x : Option Effect). IsPausedAt x (work_of u)) (sym some) tt })
-
 pub no_effect : (x : Option declared.Effect) → false ≡ is_some x → option_map plain_effect x ≡ None
 no_effect None none = refl
 no_effect (Some e) none = absurd (cc)
-
-pub none_held : (what : Next) (buffer : List ℕ) → what ≡ next.Nothing → held_in what buffer ≡ []
-none_held what buffer is = ap (λ (w : Next). held_in w buffer) is
-
-pub some_held : (what : Next) (buffer : List ℕ) → (what ≡ next.Nothing → ⊥) → held_in what buffer ≡ [] → ⊥
-some_held (next.Data count) buffer some is = cc
-some_held (next.Note count) buffer some is = cc
-some_held next.Nothing buffer some is = some refl
-
-effect_none : (effect : Option declared.Effect) → effect ≡ None → option_map plain_effect effect ≡ None
-effect_none effect is = ap (option_map plain_effect) is
-
--- it was held before
-pub holds : (t : PlainTurn) (what : Next) (buffer : List ℕ) (effect : Option declared.Effect) → t.held ≡ held_in what buffer
-    → t.server.effect ≡ option_map plain_effect effect → MayHold what t.server.host effect → (what ≡ next.Nothing → ⊥)
-    → Fetched t (Ok true) t
-holds t (next.Data count) buffer effect held is may some = (
-  nears_itself t,
-  record { some = λ e. some_held (next.Data count) buffer some (sym held ∙ e); ready = may.0; none = is ∙ effect_none effect may.1 },
-  refl,
-)
-holds t (next.Note count) buffer effect held is may some = (
-  nears_itself t,
-  record { some = λ e. some_held (next.Note count) buffer some (sym held ∙ e); ready = may.0; none = is ∙ effect_none effect may.1 },
-  refl,
-)
-holds t next.Nothing buffer effect held is may some = absurd (some refl)
 
 -- ## An endpoint that holds a packet stays ready
 
@@ -338,12 +300,6 @@ ready_on e k stop waiting unwritten broken_by ready = (
   ),
 )
 
-hold_on : (what : Next) (e k : PlainHostEndpoint) (effect : Option declared.Effect) → (IsReady e → IsReady k) → MayHold what e effect
-    → MayHold what k effect
-hold_on (next.Data count) e k effect on may = (on may.0, may.1)
-hold_on (next.Note count) e k effect on may = (on may.0, may.1)
-hold_on next.Nothing e k effect on may = tt
-
 pub ready_joined : (e k : PlainHostEndpoint) (name text : List ℕ) (r : Result ℕ AddFault) → Adds e name text r k → IsReady e → IsReady k
 ready_joined e k name text (Ok tag) adds ready =
     subst IsReady (sym adds.2) (ready_on e _ refl refl (λ none. none) refl ready)
@@ -356,39 +312,6 @@ ready_marked e k f (Err why) marks ready = subst IsReady (sym marks.1) ready
 
 pub ready_taken : (e : PlainHostEndpoint) (bytes : List ℕ) → IsReady e → IsReady (record e { pending_bytes = bytes })
 ready_taken e bytes ready = ready_on e (record e { pending_bytes = bytes }) refl refl (λ none. none) refl ready
-
-pub hold_joined : (what : Next) (e k : PlainHostEndpoint) (effect : Option declared.Effect) (name text : List ℕ) (r : Result ℕ AddFault)
-    → MayHold what e effect → Adds e name text r k → MayHold what k effect
-hold_joined what e k effect name text r may adds = hold_on what e k effect (ready_joined e k name text r adds) may
-
-pub hold_marked : (what : Next) (e k : PlainHostEndpoint) (effect : Option declared.Effect) (f : ℕ) (r : Result (Unit {0}) MarkFault)
-    → MayHold what e effect → Marks e f r k → MayHold what k effect
-hold_marked what e k effect f r may marks = hold_on what e k effect (ready_marked e k f r marks) may
-
-pub hold_taken : (what : Next) (e : PlainHostEndpoint) (effect : Option declared.Effect) (bytes : List ℕ) → MayHold what e effect
-    → MayHold what (record e { pending_bytes = bytes }) effect
-hold_taken what e effect bytes may = hold_on what e (record e { pending_bytes = bytes }) effect (ready_taken e bytes) may
-
-pub hold_none : (what : Next) (e : PlainHostEndpoint) (effect : Option declared.Effect) → MayHold what e effect → MayHold what e None
-hold_none (next.Data count) e effect may = (may.0, refl)
-hold_none (next.Note count) e effect may = (may.0, refl)
-hold_none next.Nothing e effect may = tt
-
-no_writes : (e k : PlainHostEndpoint) → e.writes ≡ [] → k.writes ≡ e.writes → k.writes ≡ []
-no_writes e k none same = same ∙ none
-
-pub joined_none : (e k : PlainHostEndpoint) (name text : List ℕ) (r : Result ℕ AddFault) → e.writes ≡ [] → Adds e name text r k
-    → k.writes ≡ []
-joined_none e k name text (Ok tag) none adds = no_writes e k none (ap (λ (x : PlainHostEndpoint). x.writes) adds.2)
-joined_none e k name text (Err why) none adds = no_writes e k none (ap (λ (x : PlainHostEndpoint). x.writes) adds.1)
-
-pub marked_none : (e k : PlainHostEndpoint) (f : ℕ) (r : Result (Unit {0}) MarkFault) → e.writes ≡ [] → Marks e f r k → k.writes ≡ []
-marked_none e k f (Ok done) none marks = no_writes e k none (ap (λ (x : PlainHostEndpoint). x.writes) marks.2)
-marked_none e k f (Err why) none marks = no_writes e k none (ap (λ (x : PlainHostEndpoint). x.writes) marks.1)
-
-pub ruleset joined_facts = (hold_joined, joined_none)
-
-pub ruleset marked_facts = (hold_marked, marked_none)
 
 -- ## It is handed on
 
@@ -429,9 +352,6 @@ bring_broke t k (fault.Stopped why) piece ready none held (never, same) =
     λ i. record { packets = held i ++ t.server.link.waiting.packets; host = t.server.host; effect = none i } in
     brings_nowhere ends.1.0 piece t.server.link.waiting.packets t.server.host ends.0 ready never
     (subst (λ (w : Work). PausesBy ends.1.0 w ends.0) here ends.1.1)
-
-pub brought_none : (e k : PlainHostEndpoint) (piece : List ℕ) → e.writes ≡ [] → BringsIn e piece (Ok tt) k → k.writes ≡ []
-brought_none e k piece none (ready, (messages, broken_by, rest, gives, is)) = ap (λ (x : PlainHostEndpoint). x.writes) is ∙ none
 
 -- a packet that was held is handed on
 abbrev pub handed_on : PlainTurn → PlainHostEndpoint → Option Effect → PlainTurn
@@ -545,14 +465,6 @@ put_told t l k bytes count handed all long does host =
     subst (λ (b : List ℕ). Does t.server.link (Put b (Ok tt)) l) all does in
     subst (λ (x : PlainHostEndpoint). Finished t (Ok tt) (record t { server = record t.server { link = l; host = x } })) (sym same)
     (put_ends t l handed put, put_rests t l handed put)
-
--- they can't be counted
-pub put_broke : (t : PlainTurn) (l : End) (bytes : List ℕ) → IsHanded t → bytes ≡ t.server.host.pending_bytes
-    → Does t.server.link (Put bytes (Err puts.CountFull)) l → (z : Server) → Finishes t z → ⊥
-put_broke t l bytes handed all does z (m, (n, pauses), (k, put, is)) =
-    let same : m ≡ work_of t = paused_stays n (work_of t) m handed.paused pauses in
-    let bytes_are : m.host.pending_bytes ≡ bytes = ap (λ (w : Work). w.host.pending_bytes) same ∙ sym all in
-    does.0.0 (subst (λ (b : List ℕ). HasRoomToKeep t.server.link.keeps (length (data_stream b))) bytes_are put.0.0)
 
 finished_near : (t v w : PlainTurn) (r : Result (Unit {0}) TurnFault) → Nears t v → Finished v r w → Finished t r w
 finished_near t v w (Ok done) near ends = (near.leads w.server ends.0, ends.1)

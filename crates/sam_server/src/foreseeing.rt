@@ -17,7 +17,8 @@ use std::alloc::{AllocError, Global};
 /// Returns the effect that has name and text of a file that goes. Its only error is out of memory.
 #[tactic(auto, using(crate::proofs::Heirs::whole_text))]
 fn closing(alloc: Global, tag: u16, file: &File) -> Result<Effect, AllocError>
-    ensures { IfOk result (λ effect. plain_effect effect ≡ Close tag (encode_utf8_all file.now.plain.name) (encode_utf8_all file.now.plain.text)) }
+    ensures { IfOk result (λ effect.
+        plain_effect effect ≡ Close tag (encode_utf8_all file.now.plain.name) (encode_utf8_all file.now.plain.text)) }
 {
     let text = file.text();
     Ok(Effect::Close {

@@ -1,9 +1,9 @@
 //! The host's end of a link, with what a gate has to know of it.
 
-ghost use Rattle.std.specs.Prelude.{◌≡◌, ◌<◌, ◌≤◌, ◌&&◌, ◌==◌, OnErr, Ok, Some, None, false, length};
+ghost use Rattle.std.specs.Prelude.{◌≡◌, ◌<◌, ◌≤◌, ◌&&◌, ◌==◌, length};
 ghost use Rattle.sam_link.specs.Calls.{Does};
-ghost use Rattle.sam_link.specs.Calls.Call.{Acknowledge, Answer, Ask, Break, Feed, Put, PutNote, TakeOut};
-ghost use Rattle.sam_link.specs.End.{broken, fresh, is_up, refusal_of};
+ghost use Rattle.sam_link.specs.Calls.Call.{Acknowledge, Ask, Feed, Put, PutNote, TakeOut};
+ghost use Rattle.sam_link.specs.End.{broken, fresh, is_up};
 ghost use Rattle.sam_link.specs.declared.phase.Role.TheVariants.{Host};
 ghost use Rattle.sam_server.specs.Gates.{gone_count, put_count};
 ghost use Rattle.sam_link.specs.declared.phase.Phase.TheVariants.{Open};

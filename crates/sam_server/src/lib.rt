@@ -1,7 +1,7 @@
 //! A server: a host and its end of a link, which go on after a crash from records of what they took.
 //!
-//! [`DurableServer`] takes what it is given, one record a call, and lets nothing go out that a record decides which is not durable. A record
-//! is of an input that was taken, so the records alone decide all that a server answers: sam_served has the laws.
+//! [`DurableServer`] takes what it is given, one record a call, and lets nothing go out that a record decides which is not durable. A
+//! record is of an input that was taken, so the records alone decide all that a server answers: sam_served has the laws.
 //!
 //! A record that is read lies in the bytes that it was read from; only one that is written takes memory.
 //!

@@ -311,8 +311,8 @@ impl DurableServer {
         }
     }
 
-    /// Moves the next bytes for connection `attempt` into the buffer, as many as durable records decide and have room, and returns how many.
-    /// The rest of the buffer stays as it was. Nothing goes out while something waits for `go_on`. The error is `NotOpen`.
+    /// Moves the next bytes for connection `attempt` into the buffer, as many as durable records decide and have room, and returns how
+    /// many. The rest of the buffer stays as it was. Nothing goes out while something waits for `go_on`. The error is `NotOpen`.
     pub fn take_out(&mut self, attempt: u64, into: &mut [u8]) -> Result<usize, NotOpen>
         ensures { TakesOutDurable self.old attempt into.old result into.new self.new }
     {

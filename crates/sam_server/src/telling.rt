@@ -1,6 +1,5 @@
 //! What a server's program has it tell the terminal: that a file is dirty, and how much has come.
 
-ghost use Rattle.std.specs.Prelude.{◌≡◌};
 ghost use Rattle.sam_server.specs.DurableServers.{RefusesAcknowledge, RefusesAsk, RefusesMark, TakesRecord};
 ghost use Rattle.sam_server.specs.Records.{Acknowledged, Asked, Marked};
 

@@ -3,7 +3,6 @@ use Rattle.sam_session.proofs.Common.{◌≡◌, ◌⊎◌, ℕ, ◌≤◌, List
 use Rattle.std.specs.Global.{Vec}
 use Rattle.sam_script.specs.Replay as replay
 use Rattle.sam_script.specs.declared.fault.ScriptFault.{ScriptFault}
-use Rattle.sam_script.specs.declared.fault.ScriptFault.TheVariants as fault
 use Rattle.sam_session.specs.Replaying.{of_script, IsReplay, IsReplayFault}
 use Rattle.sam_modes.specs.Limits.{most_input}
 

@@ -1,6 +1,6 @@
 -- What both sides did, with more at its end.
 use Rattle.std.proofs.Common.{List, [], ◌∷◌, ◌++◌, append_assoc, arith}
-use Rattle.sam_sides.specs.Sides.{Each, Steps, HostRuns, TermRuns}
+use Rattle.sam_sides.specs.Sides.{Each, Steps, TermRuns}
 use Rattle.sam_sides.specs.declared.log.TermLog.{TermLog}
 use Rattle.sam_sides.specs.declared.log.TermLog.TheVariants as log
 
@@ -10,12 +10,6 @@ module _ {X : Type 0} where
   each_append P (x ∷ xs) ys a b = (a.0, each_append P xs ys a.1 b)
 
 module _ {H T M F : Type 0} (s : Steps H T M F) where
-  -- the host's log grows at its end
-  pub host_more : (h j k : H) (ms : List M) (fs : List F) (ms' : List M) (fs' : List F)
-      → HostRuns s h ms fs j → HostRuns s j ms' fs' k → HostRuns s h (ms ++ ms') (fs ++ fs') k
-  host_more h j k [] fs ms' fs' r q = grind arith
-  host_more h j k (m ∷ ms) fs ms' fs' r q = grind (arith, append_assoc, (host_more r.0 j k ms r.2 ms' fs' r.5 q))
-
   -- the terminal's log grows at its end
   pub term_more : (es : List TermLog) (t u v : T) (fs : List F) (ms : List M) (es' : List TermLog) (fs' : List F) (ms' : List M)
       → TermRuns s t es fs ms u → TermRuns s u es' fs' ms' v → TermRuns s t (es ++ es') (fs ++ fs') (ms ++ ms') v

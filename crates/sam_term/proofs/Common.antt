@@ -7,13 +7,13 @@ pub use Rattle.sam_mesg.specs.declared.hmesg.HFrame.{HFrame}
 pub use Rattle.sam_mesg.specs.declared.hmesg.Hmesg.{Hmesg}
 pub use Rattle.sam_mesg.specs.declared.hmesg.Hmesg.TheVariants.{Hack, Hbindname, Hcheck, Hclean, Hclose, Hcut, Hdata, Hdelname, Hdirty, Hexit, Hgrow, Hgrowdata, Hmoveto, Hmovname, Hnewname, Horigin, Hsetdot, Hunlockfile}
 pub use Rattle.sam_mesg.specs.declared.tmesg.Tmesg.{Tmesg}
-pub use Rattle.sam_mesg.specs.declared.tmesg.Tmesg.TheVariants.{Tack, Tcut, Tpaste, Trequest, Tsnarf, Ttype}
+pub use Rattle.sam_mesg.specs.declared.tmesg.Tmesg.TheVariants.{Tack, Tcut, Tpaste, Trequest, Tsnarf}
 pub use Rattle.sam_rasp.specs.Rasp.{PartialText, del_cells, hole_within, ins_cells, load_cells, place_after_del, place_after_ins}
 pub use Rattle.sam_runes.proofs.CheckLaws.{if-same}
 pub use Rattle.sam_runes.proofs.SlotLaws.{free_slot-set, put_slot-put_slot, put_slot-set, slot-free_other, slot-free_same, slot-map, slot-put_other, slot-put_same, slot-read, slot_given, slot_past}
 pub use Rattle.sam_runes.specs.Checks.{Checks, first_of_checks}
 pub use Rattle.sam_runes.specs.Slots.{Slots, free_slot, map_slots, put_slot, slot}
-pub use Rattle.sam_runes.specs.Texts.{ends_line, is_empty, max_runes, most_count, most_in_message, newline}
+pub use Rattle.sam_runes.specs.Texts.{is_empty, max_runes, most_count, most_in_message}
 pub use Rattle.sam_term.specs.Acting.{deed_of, first_event, is_editing, is_snarfing, is_typing}
 unfoldable pub use Rattle.sam_term.specs.Acting.{free_first, made_first}
 pub use Rattle.sam_term.specs.Editing.{edit_file, edit_range, edit_runes, flushed_if, joined_at, lengthened, one_if, replaced_in, shortened, shown_from, typed_file, typed_over, typed_runes}

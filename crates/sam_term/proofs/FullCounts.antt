@@ -1,6 +1,6 @@
 -- How many messages a call composes, and whether they can be counted.
 use Rattle.std.specs.Prelude.{nat_lt}
-use Rattle.sam_term.proofs.Common.{◌≡◌, refl, sym, ap, ◌∙◌, ℕ, ◌+◌, ◌≤◌, ◌<◌, Bool, true, false, List, [], ◌∷◌, ◌++◌, length, Option, Some, None, arith, nat_eq, eq-eqb, ne_eqb, slice_get, if◌then◌else◌, ◌==◌, ◌&&◌, first_of_checks, length-append, is_empty, most_count, PlainTerminal, Made, event_checks, window_at, is_open, unsent_message, sends, unchanged, wanted, requested, took_unlockfile, all_wanted, shown_from, frame_outcome, act_of, flush_of, first_event, made_first, deed_of, done, countable, UserEvent, Typed, Select, Paste, View, Load, SetSnarf, Flush, Edit, Tmesg, Hmesg, made_by_type, made_by_paste, made_by_view, Verdict}
+use Rattle.sam_term.proofs.Common.{◌≡◌, refl, sym, ap, ◌∙◌, ℕ, ◌+◌, ◌<◌, true, false, List, [], ◌∷◌, length, Option, Some, None, arith, nat_eq, eq-eqb, ne_eqb, slice_get, if◌then◌else◌, ◌==◌, ◌&&◌, first_of_checks, length-append, is_empty, most_count, PlainTerminal, Made, event_checks, window_at, is_open, unsent_message, sends, unchanged, wanted, requested, took_unlockfile, all_wanted, shown_from, frame_outcome, act_of, flush_of, first_event, made_first, deed_of, done, countable, UserEvent, Typed, Select, Paste, View, Load, Edit, Tmesg, Hmesg, made_by_type, made_by_paste, made_by_view, Verdict}
 use Rattle.sam_mesg.specs.declared.tmesg.Tmesg.TheVariants.{Tsetsnarf}
 use Rattle.sam_term.specs.Editing.{edit_range, edit_runes}
 use Rattle.sam_term.specs.Acting.{is_editing}
@@ -10,7 +10,7 @@ use Rattle.sam_term.specs.declared.event.Verdict.TheVariants.{Waits, Refuses}
 use Rattle.sam_term.specs.declared.fault.Refusal.{Refusal}
 use Rattle.sam_term.proofs.Acts.{act_done, act_none, act_refused, made_of, made_sends, selects}
 use Rattle.sam_term.proofs.CountLaws.{counts-event, counts-frame, counts-flushed}
-use Rattle.sam_term.proofs.Edits.{later, flushed-messages, flushed-idle, made-view, cuts_none, cut-unsent}
+use Rattle.sam_term.proofs.Edits.{later, flushed-messages, flushed-idle, made-view, cut-unsent}
 use Rattle.sam_term.proofs.Requests.{requested_some, requested_none, wanted-unlocked, unsent-unlocked}
 use Rattle.sam_term.proofs.Loads.{made_load_none, made_load_some}
 use Rattle.sam_term.proofs.Replaces.{edit_count, edit_short, made-edit_none}

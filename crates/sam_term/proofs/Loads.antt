@@ -1,10 +1,10 @@
 -- The gaps of a view in stretches, and the requests for them.
-use Rattle.sam_term.proofs.Common.{◌≡◌, refl, sym, ap, ◌∙◌, ℕ, suc, zero, ◌+◌, ◌-◌, ◌<◌, ◌≤◌, true, List, [], ◌∷◌, length, map, Option, Some, None, option_map, arith, length-take, length-drop, slot-put_same, hole_within, PartialText, all_wanted, awaiting, front_of, most_requests, requests_for, stretches, is_open, is_some, PlainTerminal, all_composed, composed, sends, sends_all, unchanged, window_at, shown_from, event_outcome, made_by_load, first_event, free_first, lock_added, is_request, Load, Tmesg, Trequest}
+use Rattle.sam_term.proofs.Common.{◌≡◌, refl, sym, ap, ◌∙◌, ℕ, suc, zero, ◌+◌, ◌-◌, ◌<◌, ◌≤◌, true, List, [], ◌∷◌, length, Option, Some, None, option_map, arith, length-take, length-drop, slot-put_same, hole_within, PartialText, all_wanted, awaiting, front_of, requests_for, stretches, is_open, PlainTerminal, all_composed, composed, sends, unchanged, window_at, shown_from, event_outcome, made_by_load, first_event, free_first, Load, Trequest}
 use Rattle.std.proofs.lemmas.List.{length-map}
 use Rattle.sam_rasp.specs.Rasp.{first_gaps, gaps_in_front, range_from}
 use Rattle.sam_runes.specs.Texts.{part}
 use Rattle.sam_term.proofs.Acts.{passes, test_at}
-use Rattle.sam_term.proofs.Composes.{composed_by, flushed-files, flushed-sent, put-put, window-put_same}
+use Rattle.sam_term.proofs.Composes.{composed_by, put-put, window-put_same}
 use Rattle.sam_term.proofs.Edits.{later, make_facts}
 use Rattle.sam_term.proofs.SlotSteps.{put_again}
 

@@ -1,11 +1,11 @@
 //! Whether a call would do anything, and whether it would compose more messages than can be counted. A caller that needs memory of its own
 //! before a call tells a full count from want of memory by these. They take no memory.
 
-ghost use Rattle.std.specs.Prelude.{◌≡◌, ◌+◌, ◌≤◌, length, nat_lt, IsTrue, None};
+ghost use Rattle.std.specs.Prelude.{◌≡◌, ◌+◌, length, nat_lt, None};
 ghost use Rattle.sam_runes.specs.Texts.{most_count};
 ghost use Rattle.sam_term.specs.Acting.{deed_of, made_first, free_first, first_event};
 ghost use Rattle.sam_term.specs.Taking.{acts, frame_fault, is_term_full};
-ghost use Rattle.sam_term.specs.Term.{act_of, flush_of, take_of, frame_outcome, is_open, requested, unsent_message, wanted};
+ghost use Rattle.sam_term.specs.Term.{act_of, flush_of, take_of, frame_outcome, requested};
 ghost use Rattle.sam_term.specs.declared.event.UserEvent.{UserEvent};
 
 use crate::event::{Deed, Verdict};

@@ -2,7 +2,7 @@
 //! composes a message, by `send_for_event` in `acting`.) A `make_` method does the oldest held event and drops it. Its errors, in this
 //! order: `CountFull`; `OutOfMemory`. The terminal is then unchanged.
 
-ghost use Rattle.std.specs.Prelude.{◌≡◌, ◌+◌, ◌<◌, ◌≤◌, ◌++◌, ◌∷◌, [], length, IsOk, IsTrue, None, drop};
+ghost use Rattle.std.specs.Prelude.{◌≡◌, ◌+◌, ◌≤◌, ◌++◌, [], length, IsOk, IsTrue, None, drop};
 ghost use Rattle.sam_runes.specs.Texts.{most_count};
 ghost use Rattle.sam_term.specs.Acting.{made_first, free_first, first_event, is_snarfing};
 ghost use Rattle.sam_term.specs.Editing.{shown_from};

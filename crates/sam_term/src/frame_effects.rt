@@ -1,6 +1,6 @@
 //! What each frame of the host does to the terminal, once nothing stands against it. `frame_refusals` has the tests.
 
-ghost use Rattle.std.specs.Prelude.{◌≡◌, ◌+◌, ◌<◌, ◌≤◌, ◌==◌, if◌then◌else◌, [], length, IsTrue, None, false, true};
+ghost use Rattle.std.specs.Prelude.{◌≡◌, ◌+◌, ◌<◌, ◌≤◌, [], length, IsTrue, None, false, true};
 ghost use Rattle.sam_runes.specs.Slots.{free_slot};
 ghost use Rattle.sam_runes.specs.Texts.{agreed, most_count, max_runes};
 ghost use Rattle.sam_term.specs.Taking.{IsAnswer, countable, frame_fault};

@@ -2,7 +2,7 @@
 //! changed. It holds no event back, composes no message and moves no unsent runes: the methods of `Terminal` in `windows` stand
 //! above it. What it keeps for a file stands in `records`.
 
-ghost use Rattle.std.specs.Prelude.{◌≡◌, ◌++◌, ◌∷◌, ◌+◌, ◌-◌, ◌<◌, ◌≤◌, ◌^◌, [], length, OnErr, OnOk, IsTrue, is_some, Some, None, option_copied, replicate, vec_len, vec_capacity, option_map, unwrap_or};
+ghost use Rattle.std.specs.Prelude.{◌≡◌, ◌++◌, ◌+◌, ◌-◌, ◌<◌, ◌≤◌, ◌^◌, [], length, OnErr, OnOk, IsTrue, is_some, Some, None, option_copied, replicate, vec_len, vec_capacity, option_map, unwrap_or};
 ghost use Rattle.sam_runes.specs.Slots.{slot, put_slot, free_slot, map_slots};
 ghost use Rattle.std.specs.Borrow.{sem};
 ghost use Rattle.sam_term.specs.Lending.{LendsFile, LendsKnown, LendsOpen, LendsWindow};

@@ -1,7 +1,7 @@
 //! Laws of what a terminal does, for readers and for the crates above. They speak of the definitions that `act`, `flush` and `receive`
 //! compute; `Terminal::facts` has what is true of each terminal. Each function does nothing: its clauses are the law.
 
-ghost use Rattle.std.specs.Prelude.{◌≡◌, ◌+◌, ◌||◌, ℕ, length, Some, None, true, false};
+ghost use Rattle.std.specs.Prelude.{◌≡◌, ◌+◌, ◌||◌, ℕ, Some, None, true, false};
 ghost use Rattle.sam_mesg.specs.declared.hmesg.Hmesg.{Hmesg};
 ghost use Rattle.sam_runes.specs.Checks.{first_of_checks};
 ghost use Rattle.sam_term.specs.Effect.{shown, changed_by};

@@ -1,7 +1,7 @@
 //! What the event `Load` does: it asks for all gaps of a view at once, where `View` asks for the first. The request rule stands in
 //! `composing`.
 
-ghost use Rattle.std.specs.Prelude.{◌≡◌, ◌+◌, ◌++◌, ◌≤◌, length, min, None, IsTrue, option_map};
+ghost use Rattle.std.specs.Prelude.{◌≡◌, ◌+◌, ◌++◌, ◌≤◌, length, None, IsTrue, option_map};
 ghost use Rattle.sam_rasp.specs.Rasp.{hole_within};
 ghost use Rattle.sam_runes.specs.Texts.{most_count};
 ghost use Rattle.sam_term.specs.Acting.{made_first, free_first, first_event};

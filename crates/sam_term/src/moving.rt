@@ -1,7 +1,7 @@
 //! How a place moves as a text changes, and the changes of one `Window` with its dot and its view. They know nothing of tags or of the
 //! terminal. Only the functions for unsent runes are given a tag, since these may be of another file.
 
-ghost use Rattle.std.specs.Prelude.{◌≡◌, ◌+◌, ◌-◌, ◌<◌, ◌≤◌, ◌^◌, length, OnErr, OnOk, Some, None, false, map, replicate, IfSome};
+ghost use Rattle.std.specs.Prelude.{◌≡◌, ◌+◌, ◌-◌, ◌<◌, ◌≤◌, ◌^◌, length, OnErr, OnOk, Some, None, map, replicate, IfSome};
 ghost use Rattle.sam_rasp.specs.Rasp.{place_after_ins, place_after_del, load_cells};
 ghost use Rattle.sam_runes.specs.Texts.{max_runes};
 ghost use Rattle.sam_term.specs.Sound.{AreWithin, shifted};

@@ -1,7 +1,7 @@
 //! What the event `Edit` does: a range of a file gives way to a text of any length, all or nothing. All that needs memory comes before the
 //! first change: the outbox, the pieces of the text, and the change of the rasp itself.
 
-ghost use Rattle.std.specs.Prelude.{◌≡◌, ◌+◌, ◌-◌, ◌<◌, ◌≤◌, ◌++◌, ◌==◌, ◌&&◌, length, IfOk, IsTrue, None, OnErr, OnOk, false};
+ghost use Rattle.std.specs.Prelude.{◌≡◌, ◌+◌, ◌-◌, ◌≤◌, ◌++◌, ◌==◌, ◌&&◌, length, IfOk, IsTrue, None, OnErr, OnOk, false};
 ghost use Rattle.sam_runes.specs.Texts.{is_empty, max_runes, most_count};
 ghost use Rattle.sam_term.specs.Acting.{made_first, free_first, first_event, is_editing};
 ghost use Rattle.sam_term.specs.Editing.{edit_file, edit_range, edit_runes, replaced_in};

@@ -1,7 +1,7 @@
 //! What the event `Typed` does: its runes come in the place of the dot, join the unsent ones if they follow them, and go to the host at
 //! once if they end a command line.
 
-ghost use Rattle.std.specs.Prelude.{◌≡◌, ◌+◌, ◌-◌, ◌<◌, ◌≤◌, ◌^◌, ◌++◌, ◌==◌, ◌&&◌, [], length, OnErr, OnOk, IfOk, IsTrue, None, Some, false, nat_le, not, is_some, option_map, drop, if◌then◌else◌};
+ghost use Rattle.std.specs.Prelude.{◌≡◌, ◌+◌, ◌-◌, ◌<◌, ◌≤◌, ◌^◌, ◌++◌, ◌==◌, ◌&&◌, [], length, OnErr, OnOk, IfOk, IsTrue, None, Some, false, nat_le, not, is_some, option_map, drop};
 ghost use Rattle.sam_rasp.specs.Rasp.{place_after_ins, place_after_del};
 ghost use Rattle.sam_runes.specs.Texts.{is_empty, max_runes, most_count, most_in_message};
 ghost use Rattle.sam_term.specs.Acting.{first_event, free_first, is_typing, made_first};

@@ -1,5 +1,5 @@
 -- What the proofs of this crate cite most from its definitions and from the crates below.
-pub use Rattle.std.proofs.Common.{All, Bool, Err, List, MatchBool, None, Ok, Option, Result, Some, [], ap, append-nil, append_assoc, arith, drop, false, inl, inr, is_some, length, length-append, refl, rules, subst, sym, take, true, ℕ, ◌++◌, ◌+◌, ◌<◌, ◌∙◌, ◌∷◌, ◌≡◌, ◌≤◌, ◌⊎◌}
+pub use Rattle.std.proofs.Common.{All, Bool, Err, List, MatchBool, None, Ok, Option, Result, Some, [], ap, append-nil, append_assoc, arith, drop, false, inl, inr, is_some, length, length-append, refl, rules, subst, sym, true, ℕ, ◌++◌, ◌+◌, ◌<◌, ◌∙◌, ◌∷◌, ◌≡◌, ◌≤◌, ◌⊎◌}
 pub use Rattle.std.proofs.lemmas.List.Concat.{flat_map-append}
 pub use Rattle.std.proofs.lemmas.List.Elements.{All-head, All-tail}
 pub use Rattle.std.specs.Global.{Vec}
@@ -19,7 +19,7 @@ pub use Rattle.sam_term.specs.declared.event.UserEvent.TheVariants.{Exit}
 pub use Rattle.sam_ends.specs.Cutting.{PutSome}
 pub use Rattle.sam_ends.specs.Inputs.{frame_of_load, frames_in, user_of_load, users_in}
 pub use Rattle.sam_sides.specs.RealSides.{at_work}
-pub use Rattle.sam_term_worker.specs.TermMoments.{CanGoOn, Did, Goes, Handled, IsDone, IsFound, IsLocked, IsNextPiece, IsOfUser, IsPutOn, IsQuiet, IsStill, LoggedView, MayExit, Ran, SideView, SoFar, Took, WasNotHandled, WentOn, bytes_left, of_bring_fault, of_end_fault, of_stop}
+pub use Rattle.sam_term_worker.specs.TermMoments.{CanGoOn, Did, Goes, Handled, IsDone, IsFound, IsLocked, IsNextPiece, IsOfUser, IsPutOn, IsQuiet, IsStill, LoggedView, MayExit, Ran, SideView, SoFar, Took, WasNotHandled, WentOn, bytes_left, of_bring_fault, of_end_fault}
 pub use Rattle.sam_ends.specs.WorkerEnds.{TermTold}
 pub use Rattle.sam_ends.specs.declared.input.Input.{Input}
 pub use Rattle.sam_ends.specs.declared.stop.Stop.{Stop}

@@ -1,5 +1,5 @@
 -- What is kept of the terminal's worker, step by step.
-use Rattle.sam_term_worker.proofs.Common.{◌≡◌, ◌⊎◌, ◌∙◌, ap, subst, sym, refl, inl, inr, flat_map-append, ℕ, Bool, true, false, List, [], ◌∷◌, ◌++◌, Option, Some, None, Ok, Err, is_some, append_assoc, append-nil, arith, MatchBool, Vec, HFrame, FitsT, Tmesg, terminal, stream_of, stream_of-append, new_terminal, UserEvent, Exit, TermLog, Each, TermRuns, term_more, each_append, Entry, IsEnded, has_left, TakeView, PostView, CanBeFull, closed_post, new_take, new_post, at_work, frames_in, users_in, CanGoOn, LoggedView, Did, IsPutOn, SideView, SoFar, Ran, Goes, IsDone, IsQuiet, IsFound, PutSome, Input, Stop, TermTold, WentOn, bytes_left}
+use Rattle.sam_term_worker.proofs.Common.{◌≡◌, ◌⊎◌, ◌∙◌, ap, subst, sym, refl, inl, inr, flat_map-append, ℕ, Bool, true, false, List, [], ◌∷◌, ◌++◌, Option, Some, None, Ok, Err, is_some, append_assoc, append-nil, arith, MatchBool, Vec, HFrame, FitsT, Tmesg, terminal, stream_of, stream_of-append, new_terminal, UserEvent, Exit, TermLog, TermRuns, term_more, each_append, Entry, IsEnded, has_left, TakeView, PostView, CanBeFull, closed_post, new_take, new_post, at_work, frames_in, users_in, CanGoOn, LoggedView, Did, IsPutOn, SideView, SoFar, Ran, Goes, IsDone, IsQuiet, IsFound, PutSome, Input, Stop, TermTold, WentOn, bytes_left}
 use Rattle.sam_sides.specs.Logs.{logged_users}
 use Rattle.sam_term.specs.Term.{PlainTerminal}
 use Rattle.sam_endpoint.specs.TermEndpoints.{PlainTermEndpoint, new_term_endpoint}

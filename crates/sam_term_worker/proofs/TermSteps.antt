@@ -1,15 +1,15 @@
 -- Single steps of the terminal's end, as parts of its run.
-use Rattle.sam_term_worker.proofs.Common.{Bool, ◌≡◌, ◌⊎◌, ◌<◌, ◌≤◌, ◌∙◌, sym, ap, subst, refl, inl, inr, ℕ, length, List, [], ◌∷◌, ◌++◌, drop, true, false, is_some, Option, Some, None, Result, Ok, Err, append-nil, append_assoc, arith, Vec, All, All-head, All-tail, FitsT, Tmesg, HFrame, terminal, stream_of, PlainTerminal, act_of, flush_of, take_of, UserEvent, TermLog, Each, PostView, with_item, PutSome, Input, Stop, LoggedView, CanGoOn, Did, Handled, IsLocked, IsNextPiece, IsStill, Took, WasNotHandled, WentOn, bytes_left, of_bring_fault, of_end_fault}
+use Rattle.sam_term_worker.proofs.Common.{Bool, ◌≡◌, ◌⊎◌, ◌<◌, ◌≤◌, ◌∙◌, sym, ap, subst, refl, inl, inr, ℕ, length, List, [], ◌∷◌, ◌++◌, drop, true, false, is_some, Option, Some, None, Result, Ok, Err, append-nil, append_assoc, arith, Vec, All, All-head, All-tail, FitsT, Tmesg, HFrame, terminal, stream_of, PlainTerminal, act_of, flush_of, take_of, UserEvent, TermLog, Each, PostView, with_item, PutSome, Stop, LoggedView, CanGoOn, Did, Handled, IsLocked, IsNextPiece, IsStill, Took, WasNotHandled, WentOn, bytes_left, of_bring_fault, of_end_fault}
 use Rattle.sam_mesg.specs.HostKinds.{fits_h}
 use Rattle.sam_term.specs.Fitting.{composed_in}
 use Rattle.sam_term.specs.declared.event.Acted.{Acted}
-use Rattle.sam_term.specs.declared.event.Acted.TheVariants.{Idle, Locked, Done, Refused}
+use Rattle.sam_term.specs.declared.event.Acted.TheVariants.{Idle, Locked, Refused}
 use Rattle.sam_term.specs.declared.fault.Refusal.{Refusal}
 use Rattle.sam_term.specs.declared.fault.TermFault.{TermFault}
 use Rattle.sam_term.specs.declared.fault.TermFault.TheVariants as refusal
 use Rattle.sam_endpoint.specs.TermEndpoints.{PlainTermEndpoint}
 use Rattle.sam_endpoint.specs.TermSteps.{ActsFirst, ReceivesFirst}
-use Rattle.sam_endpoint.specs.TermStepping.{BringsEvent, BringsFrame, ComposesIn, Steps, StopsBy}
+use Rattle.sam_endpoint.specs.TermStepping.{BringsEvent, BringsFrame, ComposesIn, Steps}
 use Rattle.sam_endpoint.specs.declared.changes.Change.{Change}
 use Rattle.sam_endpoint.specs.declared.fault.EndpointFault.{EndpointFault}
 use Rattle.sam_endpoint.specs.declared.fault.EndpointFault.TheVariants as fault

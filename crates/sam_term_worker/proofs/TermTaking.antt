@@ -1,5 +1,5 @@
 -- What is kept of the terminal's worker as it takes entries.
-use Rattle.sam_term_worker.proofs.Common.{at_work, bytes_left, new_terminal, ◌∙◌, subst, sym, PlainTerminal, TermLog, TermRuns, flat_map-append, refl, ap, ◌≡◌, ◌≤◌, ◌⊎◌, inl, inr, ℕ, Bool, true, false, List, [], ◌∷◌, ◌++◌, Option, Some, None, Ok, Err, is_some, append_assoc, append-nil, arith, FitsT, Each, each_append, Entry, loads, has_mark, has_left, TakeView, TakesNext, Answers, users_in, frames_in, length, length-append, ◌+◌, frame_of_load, user_of_load, LoggedView, Did, Handled, IsStill, SideView, SoFar, Ran, IsOfUser, WasNotHandled, Input, Stop}
+use Rattle.sam_term_worker.proofs.Common.{at_work, bytes_left, new_terminal, ◌∙◌, subst, sym, PlainTerminal, TermLog, TermRuns, flat_map-append, refl, ap, ◌≡◌, ◌≤◌, ◌⊎◌, inl, inr, ℕ, Bool, true, false, List, [], ◌∷◌, ◌++◌, Option, Some, None, Ok, Err, is_some, append_assoc, append-nil, arith, FitsT, each_append, Entry, loads, has_mark, has_left, TakeView, TakesNext, Answers, users_in, frames_in, length, length-append, ◌+◌, frame_of_load, user_of_load, LoggedView, Did, Handled, IsStill, SideView, SoFar, Ran, IsOfUser, WasNotHandled, Input, Stop}
 use Rattle.sam_queue.specs.declared.take.Got.{Got}
 use Rattle.sam_queue.proofs.Histories.{loads-append, loads_mine}
 use Rattle.sam_queue.specs.Views.{LineView}

@@ -1,11 +1,11 @@
 //! The terminal at its end of the stream, with its log.
 
-ghost use Rattle.std.specs.Prelude.{◌≡◌, ◌⊎◌, ◌<◌, [], ◌∷◌, IsTrue, IfOk, IfErr, OnErr, OnOk, Ok, Some, is_some, false, true};
+ghost use Rattle.std.specs.Prelude.{◌≡◌, ◌⊎◌, ◌<◌, [], ◌∷◌, IsTrue, IfOk, IfErr, OnErr, OnOk, Ok, is_some, false, true};
 ghost use Rattle.std.specs.Bool.{OnFalse};
 ghost use Rattle.sam_mesg.specs.HostKinds.{fits_h};
 ghost use Rattle.sam_endpoint.specs.TermEndpoints.{new_term_endpoint};
 ghost use Rattle.sam_ends.specs.Cutting.{PutSome};
-ghost use Rattle.sam_term_worker.specs.TermMoments.{CanGoOn, Did, Handled, IsLocked, IsNextPiece, IsPutOn, IsStill, Took, WentOn, bytes_left, of_bring_fault, of_end_fault, of_stop};
+ghost use Rattle.sam_term_worker.specs.TermMoments.{CanGoOn, Did, Handled, IsLocked, IsNextPiece, IsPutOn, Took, WentOn, bytes_left, of_bring_fault, of_end_fault, of_stop};
 
 use sam_endpoint::{BringFault, EndpointFault, TermEndpoint, TermStep, TermStop};
 use sam_ends::{Input, Stop};

@@ -1,11 +1,11 @@
 //! The worker of the terminal.
 
-ghost use Rattle.std.specs.Prelude.{◌≡◌, ◌⊎◌, ◌<◌, [], IsTrue, Some, None, is_some, true, false};
+ghost use Rattle.std.specs.Prelude.{◌≡◌, ◌⊎◌, ◌<◌, IsTrue, Some, None, is_some, true, false};
 ghost use Rattle.sam_queue.specs.Views.{new_take, new_post, closed_post};
 ghost use Rattle.sam_queue.specs.History.{IsEnded};
 ghost use Rattle.sam_ends.specs.Gates.{LetOn, TermHandled, TermKeptOut, TermLetOn};
 ghost use Rattle.sam_ends.specs.WorkerEnds.{TermTold};
-ghost use Rattle.sam_term_worker.specs.TermMoments.{CanGoOn, Goes, HasActed, IsDone, IsFound, IsQuiet, MayExit, Rests, new_side};
+ghost use Rattle.sam_term_worker.specs.TermMoments.{Goes, HasActed, IsDone, IsFound, IsQuiet, MayExit, Rests, new_side};
 
 use crate::logged_terminal::LoggedTerminal;
 use sam_ends::{Gate, Input, Stop, TERMINAL, TermEnd};
@@ -465,8 +465,9 @@ impl<'q> Side<'q> {
 ///
 /// The end's `stop` is `None` if the host ended the session, everybody left, and nothing is held, unsent or not put. Else it is `Gate` if
 /// the gate refused the worker; `Frame(1)` or `Frame(2)` for an item that no worker of a session sends; `Term` if the terminal refused a
-/// frame or could not count a message; `PeerGone` if the host reader left before the session was over; `Memory` when out of memory, or where
-/// 2^64-1 events came before. Once stopped it closes its post, and takes and drops until everybody has left, so that nobody waits for it.
+/// frame or could not count a message; `PeerGone` if the host reader left before the session was over; `Memory` when out of memory, or
+/// where 2^64-1 events came before. Once stopped it closes its post, and takes and drops until everybody has left, so that nobody waits for
+/// it.
 #[tactic(auto, using(crate::proofs::TermKeeping::term_let_on))]
 pub fn run_terminal<'q, R: Wait, G: Gate>(
     rt: &R,

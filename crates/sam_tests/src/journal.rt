@@ -8,8 +8,8 @@ use std::alloc::{AllocError, Global};
 
 const RANDOM: u64 = 0x0123_4567_89ab_cdef;
 
-/// A head, a record of "one" of which nothing was durable, and an empty one, made when all before it was. It is of Python's numbers and of a sum
-/// that was worked out bit by bit.
+/// A head, a record of "one" of which nothing was durable, and an empty one, made when all before it was. It is of Python's numbers and of
+/// a sum that was worked out bit by bit.
 const FILE: [u8; 83] = [
     0x89, 0x73, 0x61, 0x6d, 0x6a, 0x72, 0x6e, 0x0a, 0x00, 0x00, 0x00, 0x02, 0x01, 0x23, 0x45, 0x67,
     0x89, 0xab, 0xcd, 0xef, 0x4d, 0x98, 0x8a, 0xaf, 0x00, 0x00, 0x00, 0x00, 0x00, 0x00, 0x00, 0x00,

@@ -415,8 +415,8 @@ const PLACE_IN_A_TEXT_TO_COME: [Step<'_>; 8] = [
     Step::Dot(1, 1, 4),
 ];
 
-/// Of `hello` the user makes `heXYllo`, selects `Yl`, then `lo`, and then, of another file, `ain`. The host makes the text full, and `XY` is
-/// taken back: of the first range `l` is left, the second one still is `lo`, and the third one stays.
+/// Of `hello` the user makes `heXYllo`, selects `Yl`, then `lo`, and then, of another file, `ain`. The host makes the text full, and `XY`
+/// is taken back: of the first range `l` is left, the second one still is `lo`, and the third one stays.
 const RANGES_BEHIND_WHAT_IS_TAKEN_BACK: [Step<'_>; 15] = [
     Step::Do(Wish::Version),
     Step::Do(Wish::Open(1)),

@@ -9,7 +9,7 @@ pub use Rattle.sam_runes.proofs.EditSteps.{AscendFrom-lower, length_replaced}
 pub use Rattle.sam_runes.proofs.SlotLaws.{length-free_slot, length-map_slots, length-put_slot, put_slot-push, slot-free_other, slot-free_same, slot-map, slot-put_other, slot-put_same, slot-read, slot_given, slot_past}
 pub use Rattle.sam_runes.specs.Edits.{AscendFrom, inserted, removed}
 pub use Rattle.sam_runes.specs.Slots.{Slots, free_slot, map_slots, put_slot, slot}
-pub use Rattle.sam_runes.specs.Texts.{Range, all_tags, ins, leftmost, max_runes, most_in_name, most_in_pattern, part}
+pub use Rattle.sam_runes.specs.Texts.{Range, all_tags, leftmost, max_runes, most_in_name, most_in_pattern, part}
 pub use Rattle.sam_runes.specs.declared.edit.Edit.{Edit}
 unfoldable pub use Rattle.sam_text.specs.Files.{AreAnnounced}
 pub use Rattle.sam_text.specs.Files.{AreFit, AreSoundFiles, HasShortName, IsFit, IsOutcomeFor, IsOutcomeOf, IsPattern, PlainFile, PlainFiles, PlainOutcome, RoomyFiles, after_print, announce_all, announced_file, blank_file, committed, cut_file, file_after, file_at, has_file, pasted_file, put_file, put_outcome, typed_file, with_new, without_file}

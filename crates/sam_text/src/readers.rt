@@ -1,6 +1,6 @@
 //! What can be read of `Files` by tag: texts, names, dots, marks, and where words and patterns stand.
 
-ghost use Rattle.std.specs.Prelude.{◌≡◌, ◌<◌, ◌≤◌, ◌+◌, ◌||◌, IfOk, IfSome, length, option_map, option_and_then, option_copied, nat_lt};
+ghost use Rattle.std.specs.Prelude.{◌≡◌, ◌<◌, ◌≤◌, ◌+◌, ◌||◌, IfOk, IfSome, length, option_map, option_copied, nat_lt};
 ghost use Rattle.sam_runes.specs.Texts.{max_runes, part, searched, word_at, most_in_name};
 ghost use Rattle.sam_runes.specs.Slots.{slot};
 ghost use Rattle.sam_text.specs.Files.{has_file, file_at, search_of, IsFit, HasShortName};

@@ -1,8 +1,8 @@
 //! Command lines on the files: what a line does, and how that is put in.
 
-ghost use Rattle.std.specs.Prelude.{◌≡◌, ◌≤◌, ◌+◌, ℕ, IfOk, OnErr, Err, Some, true, length, option_map};
+ghost use Rattle.std.specs.Prelude.{◌≡◌, ◌≤◌, ◌+◌, IfOk, OnErr, Err, true, length, option_map};
 ghost use Rattle.sam_runes.specs.Texts.{max_runes};
-ghost use Rattle.sam_text.specs.Files.{RoomyFiles, file_at, has_file, typed_files, after_print, committed, IsOutcomeOf};
+ghost use Rattle.sam_text.specs.Files.{file_at, has_file, typed_files, after_print, committed, IsOutcomeOf};
 ghost use Rattle.sam_text.specs.Meaning.{meaning, work_file};
 ghost use Rattle.sam_text.specs.Outcomes.{effect, rewritten, work};
 ghost use Rattle.sam_text.specs.Views.{KeepRooms, KeepRoomsBut, room_at};

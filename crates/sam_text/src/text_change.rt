@@ -1,7 +1,6 @@
 //! `TextChange`: a change of a text, as one of many that are made one after another.
 
-ghost use Rattle.std.specs.Prelude.{◌≡◌, ◌<◌, ◌≤◌, ◌+◌, MatchOption, IfSome, length, take};
-ghost use Rattle.sam_runes.specs.Texts.{max_runes};
+ghost use Rattle.std.specs.Prelude.{◌≡◌, ◌≤◌, MatchOption, IfSome, length, take};
 ghost use Rattle.sam_text.specs.Changes.{after_change, after_changes, dot_after, last_dot, AllowsAll, IsAllowed};
 
 use sam_runes::GapBuffer;

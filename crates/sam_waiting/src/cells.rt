@@ -1,9 +1,9 @@
 //! Laws of the cells over one rasp, of which the clauses of `sam_pending` speak. Each is the contract of a function that does nothing; a
 //! caller's proof may use what it says.
 
-ghost use Rattle.std.specs.Prelude.{◌≡◌, ◌<◌, ◌≤◌, ◌+◌, ◌-◌, ◌++◌, ℕ, List, length, map, take, drop, reverse, Some, All};
+ghost use Rattle.std.specs.Prelude.{◌≡◌, ◌<◌, ◌≤◌, ◌+◌, ◌++◌, ℕ, List, length, map, take, drop, reverse, Some, All};
 ghost use Rattle.sam_pending.specs.Groups.{DropsMovePlaces, EditsKeepText, PutIsText, RemovalsGoOutOfText, RemovalsMovePlaces};
-ghost use Rattle.sam_pending.specs.Cells.{Cell, PartialText, Change, put, all_put, members, in_rasp, is_shown, rasp_of, shown_of, waiting_of, resting, part_by, take_by, drop_by, shown_place, replaced, inserted, removed, filled, gone_from, text_at, place_at, IsNewest, IsMade, IsTakenBack};
+ghost use Rattle.sam_pending.specs.Cells.{Cell, PartialText, Change, put, all_put, in_rasp, rasp_of, shown_of, waiting_of, resting, part_by, shown_place, replaced, inserted, removed, filled, gone_from, text_at, place_at, IsNewest, IsMade, IsTakenBack};
 ghost use Rattle.sam_waiting.specs.OneMachine.{Act, Ends, File, Leads, found, local_found, local_text, to_find, unasked};
 
 /// States that what is typed is what is seen: `s` in place of what was shown from `p` to `q`. While the edit waits the rasp stays.
@@ -101,7 +101,8 @@ pub fn places_stay_behind_their_text()
 /// come to the rasp and requests that act.
 #[tactic(auto, using(crate::proofs::OneMachineLaws::one_machine_facts))]
 pub fn as_on_one_machine()
-    ensures shown { (cs : List Cell) (acts : List Act) (n : File) → Leads (unasked cs) acts n → shown_of n.cells ≡ local_text (shown_of cs) acts }
+    ensures shown { (cs : List Cell) (acts : List Act) (n : File) → Leads (unasked cs) acts n
+        → shown_of n.cells ≡ local_text (shown_of cs) acts }
     ensures found { (cs : List Cell) (acts : List Act) (n : File) → Leads (unasked cs) acts n
         → local_found (shown_of cs) acts ≡ found acts ++ to_find n }
     ensures rests { (cs : List Cell) (acts : List Act) (r : PartialText) → Leads (unasked cs) acts (unasked (resting r))

@@ -6,7 +6,7 @@ use Rattle.sam_sides.specs.declared.log.TermLog.{TermLog}
 use Rattle.sam_sides.specs.declared.log.TermLog.TheVariants as log
 use Rattle.sam_crossing.specs.declared.event.Event.TheVariants as event
 use Rattle.sam_world.specs.Logs.{takes, logged_users}
-use Rattle.sam_crossing.specs.World.{user_events, joined_files}
+use Rattle.sam_crossing.specs.World.{user_events}
 
 -- no Take is above n
 abbrev pub EntryFits : TermLog → ℕ → Type 0
@@ -40,15 +40,6 @@ users_takes (suc n) es = users_takes n es
 pub users_merged_from : (done : ℕ) (es : List TermLog) (n : ℕ) → user_events (merged_from done es n) ≡ logged_users es
 users_merged_from done [] n = grind (arith, (append-nil (replicate (n - done) event.HostTake)), (users_takes (n - done)))
 users_merged_from done (e ∷ es) n = grind (arith, append_assoc, users_takes, (λ (k : ℕ). users_merged_from k es n))
-
-files_takes : (n : ℕ) (es : List Event) → joined_files (replicate n event.HostTake ++ es) ≡ joined_files es
-files_takes zero es = refl
-files_takes (suc n) es = files_takes n es
-
--- and no file joins in it
-pub files_merged_from : (done : ℕ) (es : List TermLog) (n : ℕ) → joined_files (merged_from done es n) ≡ []
-files_merged_from done [] n = grind (arith, (append-nil (replicate (n - done) event.HostTake)), (files_takes (n - done)))
-files_merged_from done (e ∷ es) n = grind (arith, append_assoc, files_takes, (λ (k : ℕ). files_merged_from k es n))
 
 module _ {H T M F : Type 0} (s : Steps H T M F) where
   -- where no stamp is above n, no Take is

@@ -38,7 +38,7 @@ unfoldable pub use Rattle.sam_text.specs.Meaning.{line_outcome}
 pub use Rattle.sam_world.specs.Faults.{Advances, HasMade, IsDrainedUpTo, IsFaultOf, IsNextFault}
 pub use Rattle.sam_world.specs.Given.{AreShort, IsFile}
 pub use Rattle.sam_crossing.specs.RunOrder.{IsCountable, IsInOrder}
-pub use Rattle.sam_crossing.specs.World.{WasReached, is_quiet, IsAhead, PlainWorld, after_act, after_answer, after_compose, composed_by, host_takes, new_world, run_of, step_of, term_takes}
+pub use Rattle.sam_crossing.specs.World.{WasReached, IsAhead, PlainWorld, after_act, after_answer, after_compose, composed_by, host_takes, new_world, run_of, step_of, term_takes}
 pub use Rattle.sam_world.specs.Reached.{IsSoundWorld}
 pub use Rattle.sam_world.specs.Sides.{Counts, Each, HostRuns, Steps, TermRuns, run, world}
 pub use Rattle.sam_world.specs.Telling.{AddedFilesKeepWorkOpen, RepliesFree, RepliesFreeLast, AnswersKeepWorkOpen, RepliesTell, IsWorkOpen, has_reply, text_in}

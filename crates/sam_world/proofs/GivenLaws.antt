@@ -1,8 +1,5 @@
 -- The files that a world is made with.
-use Rattle.sam_world.proofs.Common.{◌≡◌, refl, ap, ℕ, suc, ◌+◌, ◌≤◌, ◌<◌, List, [], ◌∷◌, ◌++◌, length, take, drop, All, arith, drop_all, slice_index_or, All-head, All-tail, RoomyText, most_in_name, AreNames, given_of, AreGiven, AreShort, IsFile}
-
-pub none_left : (files : List (List ℕ × RoomyText)) (i : ℕ) → length files ≤ i → AreShort (drop i files)
-none_left files i l = grind (arith, drop_all)
+use Rattle.sam_world.proofs.Common.{◌≡◌, refl, ap, ℕ, suc, ◌+◌, ◌≤◌, ◌<◌, List, [], ◌∷◌, ◌++◌, length, take, All, arith, slice_index_or, All-head, All-tail, RoomyText, most_in_name, AreNames, given_of, AreGiven, AreShort, IsFile}
 
 pub given_fits : (files : List (List ℕ × RoomyText)) → AreNames files → AreShort files → AreGiven (given_of files)
 given_fits [] names short = tt

@@ -1,5 +1,5 @@
 -- What is kept of every world, step by step.
-use Rattle.sam_world.proofs.Common.{◌≡◌, refl, ap, ◌∙◌, ℕ, suc, Bool, true, if◌then◌else◌, None, List, [], ◌∷◌, ◌++◌, drop, Some, Ok, arith, append-nil, All, IsTrue, All-append, same_Some, PlainHost, answer, AreGiven, PlainTerminal, act_of, flush_of, take_of, UserEvent, Acted, Done, Tmesg, fits_h, HFrame, PlainWorld, new_world, composed_by, after_act, after_compose, after_answer, host_takes, term_takes, is_quiet, head, IsSoundWorld, User, Add, Mark, Act, Flush, HostTake, TermTake}
+use Rattle.sam_world.proofs.Common.{◌≡◌, refl, ap, ◌∙◌, ℕ, suc, Bool, true, if◌then◌else◌, None, List, [], ◌∷◌, ◌++◌, drop, Some, Ok, arith, append-nil, All, IsTrue, All-append, same_Some, PlainHost, answer, AreGiven, PlainTerminal, act_of, flush_of, take_of, UserEvent, Acted, Done, Tmesg, fits_h, HFrame, PlainWorld, new_world, composed_by, after_act, after_compose, after_answer, host_takes, term_takes, head, IsSoundWorld, User, Add, Mark, Act, Flush, HostTake, TermTake}
 use Rattle.sam_term.specs.Sound.{IsSound}
 use Rattle.sam_mesg.specs.TerminalKinds.{fits_t}
 use Rattle.sam_term.proofs.Fits.{act_fits, flushed_fits, taken_fits}
@@ -100,8 +100,3 @@ kept_take w t frame ms up down k s first a joined rest = rw (joined, rest) (reco
   up = All-append (λ m. IsTrue (fits_t 2 m)) w.up ms k.up (taken_fits w.term t frame ms s a);
   down = fit_rest (λ frame. IsTrue (fits_h 2 frame.msg)) w.down k.down;
 })
-
--- a quiet world is its two sides
-pub kept_sides : (w : PlainWorld) (sides : PlainHost × PlainTerminal) → IsSoundWorld w → is_quiet w ≡ true → sides ≡ (w.host, w.term)
-    → IsSoundWorld (record { host = sides.0; term = sides.1; up = []; down = [] })
-kept_sides w sides k quiet are = grind arith

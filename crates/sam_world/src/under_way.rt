@@ -1,6 +1,6 @@
 //! What is under way in one direction, in the order in which it was composed.
 
-ghost use Rattle.std.specs.Prelude.{◌≡◌, ◌≤◌, ◌<◌, ◌-◌, ◌^◌, ◌++◌, ◌∷◌, [], ◌↔◌, IsTrue, OnOk, OnErr, drop, length, min, option_copied};
+ghost use Rattle.std.specs.Prelude.{◌≡◌, ◌≤◌, ◌<◌, ◌-◌, ◌^◌, ◌++◌, [], OnOk, drop, length, min, option_copied};
 ghost use Rattle.sam_runes.specs.Texts.{is_empty};
 ghost use Rattle.sam_world.specs.UnderWay.{head};
 
@@ -20,7 +20,7 @@ pub struct UnderWay<M: Drop> {
 
 impl<M: Drop> Model for UnderWay<M> {
     ghost use Rattle.std.specs.Prelude.{◌≡◌, ◌++◌, ◌-◌, [], map};
-    ghost use Rattle.std.specs.VecDeque.{deque_items, deque_len, deque_capacity};
+    ghost use Rattle.std.specs.VecDeque.{deque_len, deque_capacity};
     ghost use Rattle.sam_world.specs.UnderWay.{RoomyMessages, AreFilled, joined};
 
     ghost Value = { RoomyMessages M };

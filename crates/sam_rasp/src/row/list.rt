@@ -1,6 +1,6 @@
 //! Changes of a list of parts. `index` is the number of a part, counted from 0, and `at` a place in it.
 
-ghost use Rattle.std.specs.Prelude.{◌≡◌, ◌<◌, ◌≤◌, ◌+◌, ◌-◌, IfOk, Ok, length, take, vec_capacity, vec_len};
+ghost use Rattle.std.specs.Prelude.{◌≡◌, ◌<◌, ◌≤◌, ◌+◌, ◌-◌, IfOk, length, take, vec_capacity, vec_len};
 ghost use Rattle.sam_runes.specs.Texts.{del, ins, part};
 ghost use Rattle.sam_rasp.specs.Rows.{members_of, most_kept, NoneEmpty};
 ghost use Rattle.sam_rasp.specs.Tallies.{tally_of};

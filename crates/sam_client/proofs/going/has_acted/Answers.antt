@@ -1,4 +1,4 @@
-use Rattle.std.proofs.Common.{◌≡◌, ◌∙◌, sym, ap, option_copied}
+use Rattle.std.proofs.Common.{◌∙◌, sym, ap, option_copied}
 use Rattle.sam_client.proofs.NoteLaws.{left_over}
 use Rattle.sam_client.proofs.going.has_acted.Goals as goal
 

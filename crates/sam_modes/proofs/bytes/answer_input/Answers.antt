@@ -1,4 +1,4 @@
-use Rattle.sam_modes.proofs.Common.{◌≡◌, arith, length-take, err_from_is_err_and}
+use Rattle.sam_modes.proofs.Common.{arith, length-take, err_from_is_err_and}
 use Rattle.sam_modes.proofs.Playing.{begins, goes_on, ends_ok, ends_side, on_side, stops}
 use Rattle.sam_modes.proofs.bytes.answer_input.Goals as goal
 

@@ -10,8 +10,8 @@ use Rattle.sam_pending.proofs.LayerLaws.{above-most}
 use Rattle.sam_pending.proofs.PartLaws.{part_fits, part_says, part_within}
 use Rattle.sam_pending.proofs.frames.inserted.Goals as goal
 
-pub shown_len-before-requires : goal.shown_len-before-requires
-shown_len-before-requires c = omega (arith, (part_fits c.in_ok-part.ensures).shown, above-most (flat c.args.blocks.now), c.requires.fits)
+pub sums_to-before-requires-clause-there : goal.sums_to-before-requires-clause-there
+sums_to-before-requires-clause-there c = omega (arith, c.in_ok-part.ensures.there)
 
 pub inserted-requires-clause-within : goal.inserted-requires-clause-within
 inserted-requires-clause-within c = rw c.as_slice.ensures.value (part_within most_kept c.in_ok-part.ensures c.requires.within)
@@ -36,7 +36,7 @@ overflow_add-result c =
     let place : c.in_ok-place.place ≡ above (front Below at xs) = c.in_ok-place.ensures.place ∙ ap (λ z. above (front Below at z)) c.as_slice.ensures.value in
     omega (
       arith,
-      c.shown_len-before.ensures,
+      (ap (λ z. z.shown_len) c.sums_to-before.ensures),
       place,
       above-split Below at xs,
       (part_fits c.in_ok-part.ensures).shown,
@@ -49,7 +49,7 @@ returns-clause-place c =
     let xs = c.in_ok-part.part.runs.items in
     let at = c.in_ok-part.part.at in
     let place : c.in_ok-place.place ≡ above (front Below at xs) = c.in_ok-place.ensures.place ∙ ap (λ z. above (front Below at z)) c.as_slice.ensures.value in
-    omega (arith, c.shown_len-before.ensures, place, (part_says c.in_ok-part.ensures).shown)
+    omega (arith, (ap (λ z. z.shown_len) c.sums_to-before.ensures), place, (part_says c.in_ok-part.ensures).shown)
 
 pub returns-clause-runs : goal.returns-clause-runs
 returns-clause-runs c =

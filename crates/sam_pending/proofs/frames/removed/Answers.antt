@@ -8,11 +8,8 @@ use Rattle.sam_pending.proofs.LayerLaws.{above-most}
 use Rattle.sam_pending.proofs.PartLaws.{part_fits, part_within}
 use Rattle.sam_pending.proofs.frames.removed.Goals as goal
 
-pub part_of-requires-clause-fits : goal.part_of-requires-clause-fits
-part_of-requires-clause-fits c = omega (arith, c.requires.fits)
-
-pub shown_len-before-requires : goal.shown_len-before-requires
-shown_len-before-requires c = omega (arith, (part_fits c.in_ok-part.ensures).shown, above-most (flat c.args.blocks.now), c.requires.fits)
+pub sums_to-before-requires-clause-there : goal.sums_to-before-requires-clause-there
+sums_to-before-requires-clause-there c = omega (arith, c.in_ok-part.ensures.there)
 
 pub removed-requires-clause-within : goal.removed-requires-clause-within
 removed-requires-clause-within c = rw c.as_slice.ensures.value (part_within most_kept c.in_ok-part.ensures c.requires.within)
@@ -20,7 +17,7 @@ removed-requires-clause-within c = rw c.as_slice.ensures.value (part_within most
 pub removed-requires-clause-shown : goal.removed-requires-clause-shown
 removed-requires-clause-shown c =
     rw c.as_slice.ensures.value
-    (omega (arith, c.shown_len-before.ensures, (part_fits c.in_ok-part.ensures).shown, above-most (flat c.args.blocks.now), c.requires.fits))
+    (omega (arith, (ap (λ z. z.shown_len) c.sums_to-before.ensures), (part_fits c.in_ok-part.ensures).shown, above-most (flat c.args.blocks.now), c.requires.fits))
 
 pub prepared-requires-clause-fits : goal.prepared-requires-clause-fits
 prepared-requires-clause-fits c =
@@ -38,8 +35,8 @@ returns-clause-told c =
     let at = c.in_ok-part.part.at in
     let n = c.args.q - c.args.p in
     c.in_ok-told.ensures.told
-    ∙ (ap (λ z. gone_runs (c.shown_len-before.result + above (front Below at z)) (front Below n (back Below at z))) c.as_slice.ensures.value
-    ∙ (ap (λ j. gone_runs (j + above (front Below at xs)) (front Below n (back Below at xs))) c.shown_len-before.ensures ∙ gone_told c.in_ok-part.ensures))
+    ∙ (ap (λ z. gone_runs (c.sums_to-before.result.shown_len + above (front Below at z)) (front Below n (back Below at z))) c.as_slice.ensures.value
+    ∙ (ap (λ j. gone_runs (j + above (front Below at xs)) (front Below n (back Below at xs))) (ap (λ z. z.shown_len) c.sums_to-before.ensures) ∙ gone_told c.in_ok-part.ensures))
 
 pub returns-clause-runs : goal.returns-clause-runs
 returns-clause-runs c =

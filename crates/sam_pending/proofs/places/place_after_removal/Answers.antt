@@ -1,10 +1,14 @@
-use Rattle.std.proofs.Common.{◌-◌, ap, sym, ◌∙◌, arith}
-use Rattle.sam_pending.proofs.PassLaws.{gone_on}
+use Rattle.std.proofs.Common.{◌∙◌, ap, ◌+◌}
+use Rattle.sam_pending.proofs.MarkLaws.{gone_behind}
 use Rattle.sam_pending.proofs.places.place_after_removal.Goals as goal
 
-pub loop-block-preserved-then-shown_len-left : goal.loop-block-preserved-then-shown_len-left
-loop-block-preserved-then-shown_len-left c =
-    let at = c.loop-block in
-    let on = gone_on c.args.group at.skipped at.range at.left c.args.blocks.now at.block-index c.block-item.result c.loop-block-test.true c.block-item.is
-    (omega (arith, c.newest.ensures, c.if-newest-group.true)) (omega (arith, c.rasp_len.ensures, c.if-rasp_len-skipped.true)) (omega (arith, c.shown_len.ensures, c.if-shown_len-left.true)) in
-    rw (c.shown_len-left.ensures, c.rasp_len-skipped.ensures) (ap (λ z. at.after - z) (sym on) ∙ at.invariant)
+pub overflow_sub-left : goal.overflow_sub-left
+overflow_sub-left c = (gone_behind c.args.count c.as_slice.result.now c.as_slice.ensures c.pass-start.ensures.passes).1
+
+pub overflow_sub-p : goal.overflow_sub-p
+overflow_sub-p c = (gone_behind c.args.count c.as_slice.result.now c.as_slice.ensures c.pass-start.ensures.passes).0
+
+pub returns : goal.returns
+returns c =
+    ap (λ z. c.pass-start.result.1.shown_len + z) c.behind_removal.ensures
+    ∙ (gone_behind c.args.count c.as_slice.result.now c.as_slice.ensures c.pass-start.ensures.passes).2

@@ -1,4 +1,4 @@
-use Rattle.std.proofs.Common.{◌≡◌, ◌<◌, refl, length, length-drop, ap, drop, ℕ, arith}
+use Rattle.std.proofs.Common.{◌≡◌, ◌<◌, length, length-drop, ap, drop, arith}
 use Rattle.std.proofs.lemmas.Slice.{between_to_end}
 use Rattle.sam_client.proofs.BatchLaws.{none_left, one_more, refused}
 use Rattle.sam_client.proofs.client.Client.replace_each.Goals as goal

@@ -1,4 +1,4 @@
-use Rattle.std.proofs.Common.{◌≡◌, subst, ℕ, false, length, nat_eq, Option, Some, None, slice_get, arith}
+use Rattle.std.proofs.Common.{◌≡◌, subst, false, length, Some, None, slice_get, arith}
 use Rattle.sam_runes.specs.Slots.{slot}
 use Rattle.sam_term.specs.Term.{rasp_at}
 use Rattle.sam_overlay.specs.Calls.{PlainOverlay, cells_at}

@@ -14,24 +14,24 @@ make_first-requires c = omega (arith, c.self.invariant.rasp, c.self.invariant.wa
 
 pub invariant_of-self : goal.invariant_of-self
 invariant_of-self c =
-    let l : Layer = record { text = c.self.inside.text.items; blocks = c.self.inside.runs.items } in
-    let same : c.make_first.new.blocks.items ≡ made_in (next_deed c.args.up_to (runs_of l)) l.blocks =
-    c.make_first.ensures ∙ ap (λ w. made_in w l.blocks) (c.next_deed-deed.ensures ∙ ap (λ z. next_deed c.args.up_to (flat z)) c.as_slice.ensures.value) in
+    let l : Layer = record { text = c.self.inside.text.items; blocks = c.self.inside.runs } in
+    let same : c.make_first.new.self ≡ made_in (next_deed c.args.up_to (runs_of l)) l.blocks =
+    c.make_first.ensures ∙ ap (λ w. made_in w l.blocks) c.next_deed-deed.ensures in
     rw same (next_layer c.args.up_to l c.self.invariant (subst (λ (x : Layer). rasp_length (next_made c.args.up_to x) ≤ max_runes) (sym c.self.view_is) c.requires))
 
 pub returns-clause-cells : goal.returns-clause-cells
 returns-clause-cells c =
     let m = c.args.up_to in
-    let l : Layer = record { text = c.self.inside.text.items; blocks = c.self.inside.runs.items } in
-    let same : c.make_first.new.blocks.items ≡ made_in (next_deed m (runs_of l)) l.blocks =
-    c.make_first.ensures ∙ ap (λ w. made_in w l.blocks) (c.next_deed-deed.ensures ∙ ap (λ z. next_deed m (flat z)) c.as_slice.ensures.value) in
+    let l : Layer = record { text = c.self.inside.text.items; blocks = c.self.inside.runs } in
+    let same : c.make_first.new.self ≡ made_in (next_deed m (runs_of l)) l.blocks =
+    c.make_first.ensures ∙ ap (λ w. made_in w l.blocks) c.next_deed-deed.ensures in
     rw (← c.self.view_is) (λ r e o f. subst (λ (ds : List (List Run)). IsMade (cells_over r l) (edit_change e) (cells_of l.text (put r (edit_change e)) (flat ds)) × (rooms (flat ds) ≡ length (put r (edit_change e)))) (sym same)
     (let t = next_is m l r e c.self.invariant o f in (t.is, t.over)))
 
 pub returns-clause-groups : goal.returns-clause-groups
 returns-clause-groups c =
     let m = c.args.up_to in
-    let l : Layer = record { text = c.self.inside.text.items; blocks = c.self.inside.runs.items } in
-    let same : c.make_first.new.blocks.items ≡ made_in (next_deed m (runs_of l)) l.blocks =
-    c.make_first.ensures ∙ ap (λ w. made_in w l.blocks) (c.next_deed-deed.ensures ∙ ap (λ z. next_deed m (flat z)) c.as_slice.ensures.value) in
+    let l : Layer = record { text = c.self.inside.text.items; blocks = c.self.inside.runs } in
+    let same : c.make_first.new.self ≡ made_in (next_deed m (runs_of l)) l.blocks =
+    c.make_first.ensures ∙ ap (λ w. made_in w l.blocks) c.next_deed-deed.ensures in
     rw (← c.self.view_is) (λ g r e is o f. subst (λ (ds : List (List Run)). IsMadeBy g (cells_over r l) (edit_change e) (cells_of l.text (put r (edit_change e)) (flat ds))) (sym same) ((next_is m l r e c.self.invariant o f).by g is))

@@ -9,16 +9,16 @@ pub replace-requires-clause-there : goal.replace-requires-clause-there
 replace-requires-clause-there c = omega (arith, ap shown_length c.self.view_is, c.requires.there)
 
 pub replace-requires-clause-within : goal.replace-requires-clause-within
-replace-requires-clause-within c = within-kept c.self.inside.text.items c.self.inside.runs.items c.self.invariant
+replace-requires-clause-within c = within-kept c.self.inside.text.items c.self.inside.runs c.self.invariant
 
 pub replace-requires-clause-fits : goal.replace-requires-clause-fits
 replace-requires-clause-fits c = omega (arith, ap waiting_length c.self.view_is, c.requires.waiting, c.self.invariant.rasp, c.self.invariant.waiting)
 
-done : (c : goal.After-append) → Replaces c.self.inside.text.items c.args.runes.now c.self.inside.runs.items c.replace.new.blocks.items c.args.group c.args.p c.args.q
+done : (c : goal.After-append) → Replaces c.self.inside.text.items c.args.runes.now c.self.inside.runs c.replace.new.blocks c.args.group c.args.p c.args.q
 done c =
     let w = c.requires.waiting in
-    let n : waits (flat c.self.inside.runs.items) ≡ waiting_length c.args.self.now = ap waiting_length c.self.view_is in
-    replaces c.self.inside.text.items c.args.runes.now c.self.inside.runs.items c.replace.new.blocks.items c.args.group c.args.p c.args.q
+    let n : waits (flat c.self.inside.runs) ≡ waiting_length c.args.self.now = ap waiting_length c.self.view_is in
+    replaces c.self.inside.text.items c.args.runes.now c.self.inside.runs c.replace.new.blocks c.args.group c.args.p c.args.q
     (record { start = c.len-2.result; count = length c.args.runes.now }) c.self.invariant (omega (arith, c.len-2.ensures)) refl (omega (arith, c.len.ensures, c.if-runes-len.false, c.self.invariant.text)) (omega (arith, n, w)) c.in_ok-replace.ensures.ok
 
 pub invariant_of-self-2 : goal.invariant_of-self-2

@@ -1,4 +1,4 @@
-use Rattle.sam_term_worker.proofs.Common.{◌≡◌, ◌∙◌, ap, subst, sym, List, ◌∷◌, [], ◌++◌, Bool, true, Ok, Err, arith, CanGoOn, LoggedView, TermLog, WentOn}
+use Rattle.sam_term_worker.proofs.Common.{◌≡◌, ap, subst, sym, List, Bool, true, Ok, Err, arith, CanGoOn, LoggedView, TermLog, WentOn}
 use Rattle.sam_endpoint.specs.TermStepping.{Steps}
 use Rattle.sam_endpoint.specs.declared.step.TermStep.{TermStep}
 use Rattle.sam_ends.specs.declared.stop.Stop.TheVariants as stop

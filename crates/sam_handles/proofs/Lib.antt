@@ -1,0 +1,9 @@
+pub mod Walks
+pub mod Pieces
+pub mod Ends
+pub mod Filling
+pub mod Frees
+pub mod Measuring
+pub mod LinkIds
+pub mod OverlayLaws
+pub mod DropLaws

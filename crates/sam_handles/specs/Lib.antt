@@ -1,0 +1,17 @@
+pub mod Handles
+pub mod Buffers
+pub mod Status
+pub mod Calls
+pub mod Measures
+pub mod LinkIds
+pub mod LinkStatus
+pub mod LineStatus
+pub mod LineDetails
+pub mod NoteStatus
+pub mod Walking
+pub mod Did
+pub mod Snapshots
+pub mod OverlayStatus
+pub mod Events
+pub mod Splices
+pub mod Shown
