@@ -3,7 +3,6 @@
  */
 #define _XOPEN_SOURCE 700
 #include <errno.h>
-#include <fcntl.h>
 #include <inttypes.h>
 #include <stdlib.h>
 #include <string.h>
@@ -12,7 +11,6 @@
 
 #include "disk/fallback_directories.h"
 #include "disk/paths.h"
-#include "limits.h"
 
 #define NAME "sulgrevad"
 
@@ -52,28 +50,31 @@ char *state_path(void)
     return path;
 }
 
-/* Makes a folder that isn't there, for the user alone, and has the disk keep its name. What fails shows at the last one. */
-static void make_folder(const char *path)
+/* Makes a folder that isn't there, for the user alone, and has the disk keep its name. */
+static int make_folder(const char *path)
 {
-    char *above = mkdir(path, 0700) == 0 ? folder_of(path) : NULL;
-    int file = above == NULL ? -1 : open(above, O_RDONLY | O_DIRECTORY | O_CLOEXEC);
+    int error = mkdir(path, 0700) == 0 ? 0 : errno;
+    int above = error == 0 ? open_folder(path) : -1;
 
-    if (file >= 0) {
-        (void)fsync(file);
-        close(file);
-    }
-    free(above);
+    (void)!fsync(above);
+    close_file(&above);
+    return error == EEXIST ? 0 : error;
 }
 
-/* Makes a folder, and those above it that are not there. */
-static void make_folders(char *path)
+/* Makes a folder, and those above it that are not there. Returns why the first of them can't be made; one that is mounted as it is entered
+ * says so, too. */
+static int make_folders(char *path)
 {
+    int error = 0;
+
     for (char *slash = strchr(path + 1, '/'); slash != NULL; slash = strchr(slash + 1, '/')) {
         *slash = '\0';
-        make_folder(path);
+        int why = make_folder(path);
+        error = error != 0 ? error : why;
         *slash = '/';
     }
-    make_folder(path);
+    int why = make_folder(path);
+    return error != 0 ? error : why;
 }
 
 /* Whether a folder is the user's own, and nobody else's to read or to write. */
@@ -95,9 +96,9 @@ int own_folder(int which, bool makes, char **folder)
 
     *folder = NULL;
     if (error == 0) {
-        if (makes)
-            make_folders(path);
+        int why = makes ? make_folders(path) : 0;
         error = check_own(path);
+        error = error == ENOENT && why != 0 ? why : error;
     }
     if (error == 0) {
         *folder = formatted("%s/", path);
@@ -107,12 +108,12 @@ int own_folder(int which, bool makes, char **folder)
     return error;
 }
 
-/* The whole path of a file, in memory of its own; also of one whose folder isn't there. Where the process's own folder is gone its path counts
- * as if it began at the root. NULL where memory is out. */
+/* The whole path of a file, in memory of its own; also of one whose folder isn't there. Where the process's own folder is gone its path
+ * counts as if it began at the root. NULL where memory is out. */
 static char *whole_path(const char *path)
 {
     char *folder = folder_of(path), *whole = NULL, *own = NULL;
-    const char *slash = strrchr(path, '/'), *rest = slash == NULL ? path : slash + 1;
+    const char *rest = last_of(path);
 
     errno = ENOMEM;
     if (folder != NULL)
@@ -133,12 +134,13 @@ static char *whole_path(const char *path)
 char *own_front(const char *path)
 {
     char base[BASE_ROOM];
-    char *whole = whole_path(path);
+    char *named = formatted("%s%s", path, *last_of(path) == '\0' ? CUT : ""), *whole = named == NULL ? NULL : whole_path(named);
 
+    free(named);
     if (whole == NULL)
         return NULL;
-    struct content content = content_of(&(struct text){(uint8_t *)whole, strlen(whole)});
+    uint64_t hash = hash_of(whole);
     free(whole);
     base_of(path, base);
-    return formatted("%016" PRIx64 "-%s", content.hash, base);
+    return formatted("%016" PRIx64 "-%s", hash, base);
 }

@@ -10,18 +10,10 @@
 #include <unistd.h>
 
 #include "disk/file_reader.h"
-#include "disk/autosave.h"
 #include "disk/errors.h"
 #include "disk/folder_reader.h"
-#include "disk/paths.h"
 #include "disk/saves.h"
-#include "limits.h"
-#include "log.h"
-#include "session/document.h"
-#include "session/ending.h"
-#include "session/messages.h"
 #include "session/session.h"
-#include "sulgrevad.h"
 
 /* ---- Reading files ---- */
 
@@ -40,10 +32,9 @@ static int read_regular(const char *path, int flags, struct text *text, struct s
     if (error == 0 && !S_ISREG(now.st_mode))
         error = NOT_REGULAR;
     if (error == 0)
-        error = read_all(file, MOST_BYTES, text);
+        error = read_all(file, text);
     *status = error == 0 ? now : *status;
-    if (file >= 0)
-        close(file);
+    close_file(&file);
     return error;
 }
 
@@ -60,8 +51,7 @@ int read_unlinked(const char *path, struct text *text, struct stat *status)
     return read_regular(path, O_NOFOLLOW, text, status);
 }
 
-/* The name of a path in the session: the path, or of a long one its last runes after a sign that it was cut. */
-static char *shown_name(const char *path)
+char *shown_name(const char *path)
 {
     size_t runes = 0;
     const char *at = path + strlen(path);
@@ -80,7 +70,7 @@ int add_text(struct session *session, const char *path, const struct text *text,
     struct document document = {.path = formatted("%s", path)};
     struct content content = access(path, F_OK) == 0 ? content_of(text) : (struct content){.kind = NOT_THERE};
     char *end = NULL;
-    int error = document.path == NULL ? ENOMEM : end_of_links(document.path, &end);
+    int error = document.path == NULL ? ENOMEM : *last_of(path) == '\0' ? NO_NAME : end_of_links(document.path, &end);
 
     if (error == 0)
         document.shown = shown_name(document.path);
@@ -117,59 +107,36 @@ static int add_file(struct session *session, const char *path)
 
 /* ---- Two names of one file ---- */
 
+struct identity identity_of(const struct stat *status)
+{
+    return (struct identity){.device = status->st_dev, .inode = status->st_ino};
+}
+
 int identify(const char *path, struct identity *identity)
 {
     struct stat status;
-    char *end = NULL, *folder = NULL;
+    char *end = NULL;
     int error = end_of_links(path, &end);
-    bool is_there = error == 0 && stat(end, &status) == 0;
 
-    *identity = (struct identity){0};
-    if (error == 0 && !is_there) {
-        folder = folder_of(end);
-        const char *last = strrchr(end, '/');
-        identity->name = formatted("%s", last == NULL ? end : last + 1);
-        if (folder == NULL || identity->name == NULL)
-            error = ENOMEM;
-        else if (stat(*folder == '\0' ? "." : folder, &status) != 0)
-            error = errno;
-    }
-    if (error == 0) {
-        identity->device = status.st_dev;
-        identity->inode = status.st_ino;
-    } else {
-        free(identity->name);
-        identity->name = NULL;
-    }
-    free(folder);
+    bool is_there = error == 0 && stat(end, &status) == 0;
+    if (error == 0 && !is_there)
+        error = stat_folder(end, &status);
+    *identity = error == 0 ? identity_of(&status) : (struct identity){0};
+    if (error == 0 && !is_there)
+        identity->name = hash_of(last_of(end));
     free(end);
     return error;
 }
 
 void spell_identity(const struct identity *identity, char words[IDENTITY_ROOM])
 {
-    const char *name = identity->name == NULL ? "" : identity->name;
-    uint64_t hash = identity->name == NULL ? 0 : content_of(&(struct text){(uint8_t *)name, strlen(name)}).hash;
-
-    snprintf(words, IDENTITY_ROOM, " %" PRIx64 ":%" PRIx64 ":%" PRIx64 " ", (uint64_t)identity->device, (uint64_t)identity->inode, hash);
+    snprintf(words, IDENTITY_ROOM, " %" PRIx64 ":%" PRIx64 ":%" PRIx64 " ", (uint64_t)identity->device, (uint64_t)identity->inode,
+             identity->name);
 }
 
 bool is_one_file(const struct identity *one, const struct identity *other)
 {
-    return one->device == other->device && one->inode == other->inode && (one->name == NULL) == (other->name == NULL) &&
-           (one->name == NULL || strcmp(one->name, other->name) == 0);
-}
-
-/* Whether a path names the file of one before it, which is said then. */
-static bool is_named_before(char **paths, const struct identity *identities, int at)
-{
-    for (int before = 0; identities[at].inode != 0 && before < at; before++) {
-        if (is_one_file(&identities[at], &identities[before])) {
-            say("%s: it stands twice among the words, first as %s", paths[at], paths[before]);
-            return true;
-        }
-    }
-    return false;
+    return one->device == other->device && one->inode == other->inode && one->name == other->name;
 }
 
 bool is_folder(const char *path)
@@ -179,40 +146,42 @@ bool is_folder(const char *path)
     return stat(path, &status) == 0 && S_ISDIR(status.st_mode);
 }
 
-/* Reads the files in turn. What can't be read is left out, and said. Returns the exit status: STATUS_UNREADABLE where that is all. */
-static int add_each(struct session *session, char **paths, const struct identity *identities, int count, struct marks *marks)
+/* Notes which files the words name, so that no folder offers one of them again. A word that names the file of one before it is NULL then. */
+static int mark_words(char **paths, int count, struct marks *marks)
 {
-    int status = STATUS_OK, added = 0;
+    struct identity identity;
 
-    for (int at = 0; status != STATUS_MEMORY && at < count; at++) {
-        if (is_named_before(paths, identities, at))
-            continue;
-        status = is_folder(paths[at]) ? add_folder(session, paths[at], marks) : add_file(session, paths[at]);
-        added += status == STATUS_OK;
+    for (int at = 0; at < count; at++) {
+        int error = identify(paths[at], &identity); /* a path of which nothing is found will fail when it is read or written */
+        if (error == 0 && has_mark(marks, &identity)) {
+            say("%s: it stands twice among the words", paths[at]);
+            paths[at] = NULL;
+        } else if (error == 0)
+            error = add_mark(marks, &identity);
+        if (error == ENOMEM)
+            return ENOMEM;
     }
-    return status == STATUS_MEMORY || added == 0 ? status : STATUS_OK;
+    return 0;
 }
 
+/* What can't be read is left out, and said. */
 int add_files(struct session *session, char **paths, int count)
 {
-    struct identity *identities = calloc((size_t)count + 1, sizeof *identities);
-    struct marks marks = {0}; /* of the files among the words, so that no folder offers one of them again */
-    int status = STATUS_MEMORY, error = identities == NULL ? ENOMEM : 0;
+    struct marks marks = {0};
+    int status = STATUS_OK, added = 0;
 
-    for (int at = 0; error != ENOMEM && at < count; at++) { /* a path of which nothing is found will fail when it is read or written */
-        error = identify(paths[at], &identities[at]);
-        if (error == 0 && identities[at].name == NULL)
-            error = add_mark(&marks, identities[at].device, identities[at].inode);
-    }
-    if (error == ENOMEM)
+    if (mark_words(paths, count, &marks) != 0) {
         say("out of memory");
-    else
-        status = add_each(session, paths, identities, count, &marks);
-    for (int at = 0; identities != NULL && at < count; at++)
-        free(identities[at].name);
-    free(identities);
+        status = STATUS_MEMORY;
+    }
+    for (int at = 0; status != STATUS_MEMORY && at < count; at++) {
+        if (paths[at] == NULL)
+            continue;
+        status = is_folder(paths[at]) ? add_folder(session, paths[at], &marks) : add_file(session, paths[at]);
+        added += status == STATUS_OK;
+    }
     free(marks.items);
-    return status;
+    return status == STATUS_MEMORY || added == 0 ? status : STATUS_OK;
 }
 
 void tell_times(struct session *session)

@@ -22,6 +22,9 @@ int read_whole(const char *path, struct text *text);
 /* The same of a file that is there and no symbolic link; hands out its marks, too. */
 int read_unlinked(const char *path, struct text *text, struct stat *status);
 
+/* The name of a path in the session, in memory of the caller's: the path, or of a long one its last runes after a sign that it was cut. */
+char *shown_name(const char *path);
+
 /* Adds a file that was read to the host, and hands out its tag. After an error nothing is added. */
 int add_text(struct session *session, const char *path, const struct text *text, uint16_t *tag);
 
@@ -29,13 +32,15 @@ int add_text(struct session *session, const char *path, const struct text *text,
 struct identity {
     dev_t device;
     ino_t inode;
-    char *name; /* the caller's */
+    uint64_t name; /* its hash; 0 where the file is there */
 };
 
 enum { IDENTITY_ROOM = 56 };
 
-/* An identity in words, between two blanks: device, inode, and the hash of the name. */
+/* An identity in words, between two blanks. */
 void spell_identity(const struct identity *identity, char words[IDENTITY_ROOM]);
+
+struct identity identity_of(const struct stat *status);
 
 bool is_folder(const char *path);
 int identify(const char *path, struct identity *identity);

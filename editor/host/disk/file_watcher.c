@@ -11,24 +11,17 @@
 #define _XOPEN_SOURCE 700
 #include <errno.h>
 #include <stdlib.h>
-#include <string.h>
 #include <sys/stat.h>
 #include <unistd.h>
 
 #include "disk/file_watcher.h"
-#include "disk/autosave.h"
 #include "disk/errors.h"
 #include "disk/file_reader.h"
-#include "disk/paths.h"
 #include "disk/saves.h"
 #include "journal/journal_records.h"
 #include "net/event_loop.h"
-#include "session/document.h"
 #include "session/file_requests.h"
-#include "session/messages.h"
-#include "session/persistent_session.h"
 #include "session/session.h"
-#include "sulgrevad.h"
 
 enum {
     PERIOD = 2000, /* milliseconds between two looks */
@@ -91,7 +84,7 @@ int64_t watch_is_due_in(const struct session *session)
 {
     int64_t left = session->watched_at + PERIOD - now();
 
-    if (!session->stay->is_named || session->stay->line < 0 || session->stay->has_ended)
+    if (!session->is_named || session->line < 0 || session->has_ended)
         return -1;
     return left > 0 ? left : 0;
 }
@@ -112,12 +105,6 @@ void watch_files(struct session *session)
 }
 
 /* ---- Reading a file anew ---- */
-
-/* Whether a number is the tag of a file, other than the command file. */
-static bool is_tag(struct session *session, uint64_t tag)
-{
-    return tag > 0 && tag < count_tags(session) && has_file(session, tag);
-}
 
 /* Adds what stands at a path as a file of its own. */
 static int add_anew(struct session *session, uint16_t tag, const char *end, const struct text *text, uint16_t *anew)
@@ -175,9 +162,8 @@ bool accept_reload(struct session *session, uint16_t tag, uint64_t anew)
 
     if (known == NULL)
         return true;
-    int error = take_text(session, tag);
-    if (error != 0 || !is_same(content_of(&session->text), known->content)) /* something else stands there: its next write asks */
-        return error != ENOMEM;
+    if (take_text(session, tag) != 0 || !is_same(content_of(&session->text), known->content))
+        return true; /* something else stands there: its next write asks */
     if (remember_content(&session->documents[tag], known->path, known->content) != 0)
         return false;
     session->documents[tag].is_reloaded = true;

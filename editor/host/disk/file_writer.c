@@ -7,27 +7,25 @@
 #define _GNU_SOURCE
 #include <errno.h>
 #include <fcntl.h>
+#include <poll.h>
 #include <stdio.h>
 #include <stdlib.h>
 #include <string.h>
 #include <sys/file.h>
 #include <sys/stat.h>
 #include <sys/xattr.h>
-#include <time.h>
 #include <unistd.h>
 
 #include "disk/file_writer.h"
 #include "disk/errors.h"
 #include "disk/fallback_directories.h"
 #include "disk/file_reader.h"
-#include "disk/paths.h"
-#include "limits.h"
 
 enum {
     MOST_KEPT = 1000,      /* names that are tried for a copy */
     MOST_TRIES = 200,      /* attempts to lock a folder that another host of the user has locked */
     TRIES_OF_OTHERS = 20,  /* those where it is another user who has */
-    PAUSE = 10000000,      /* nanoseconds between two of them */
+    PAUSE = 10,            /* milliseconds between two of them */
     LOCK_ROOM = 256,       /* bytes of a line of the system's list of locks */
     ATTRIBUTES_ROOM = 4096 /* bytes of the names of a file's attributes */
 };
@@ -112,26 +110,15 @@ static int sync_written(int file, int error)
     return error == 0 && fsync(file) != 0 ? errno : error;
 }
 
-/* Opens the folder of a path. -1 where it can't be opened. */
-static int open_folder(const char *path)
-{
-    char *folder = folder_of(path);
-    int file = folder == NULL ? -1 : open(*folder == '\0' ? "." : folder, O_RDONLY | O_DIRECTORY | O_CLOEXEC);
-
-    free(folder);
-    return file;
-}
-
 /* Has the disk keep the name of a path, which an open file has got; where its folder can't be opened, by all of that file's disk. Not every
- * kind of file system can, and one that is read only by now has nothing to keep. */
+ * kind of file system can. One that says it is read only by now has met a fault, and may have lost the name. */
 static int sync_folder(const char *path, int file)
 {
     int folder = open_folder(path);
     int error = (folder >= 0 ? fsync(folder) : syncfs(file)) == 0 ? 0 : errno;
 
-    if (folder >= 0)
-        close(folder);
-    return error == EINVAL || error == ENOTSUP || error == EROFS ? 0 : error;
+    close_file(&folder);
+    return error == EINVAL || error == ENOTSUP ? 0 : error;
 }
 
 /* Locks an open folder, unless another host has it locked. Not every kind of file system can. */
@@ -166,49 +153,28 @@ static bool is_locked_by_own(int file)
  * takes long it goes without: soon where another user has it locked, who may do so for ever. */
 static int lock_folder(const char *path)
 {
-    const struct timespec pause = {0, PAUSE};
     int file = open_folder(path);
 
     for (int tries = 0; file >= 0 && tries < MOST_TRIES && is_locked_elsewhere(file); tries++) {
         if (tries >= TRIES_OF_OTHERS && !is_locked_by_own(file))
             break;
-        nanosleep(&pause, NULL);
+        (void)poll(NULL, 0, PAUSE);
     }
     return file;
 }
 
-static void unlock_folder(int file)
+/* Makes a file beside a path, for what is to take that path when it is whole. */
+static int make_temporary(const char *path, char **temporary, int *file)
 {
-    if (file >= 0)
-        close(file);
-}
+    char *folder = folder_of(path);
 
-/* Makes a file in a folder, whose name nobody has and begins with a front, and opens it. Hands out its path, in memory of the caller's. */
-static int make_in(const char *folder, const char *front, char **temporary, int *file)
-{
-    *temporary = formatted("%s" TEMPORARY "%s%sXXXXXX", folder, front, *front == '\0' ? "" : "-");
+    *temporary = folder == NULL ? NULL : formatted("%s" TEMPORARY "XXXXXX", folder);
     *file = *temporary == NULL ? -1 : mkstemp(*temporary);
     int error = *temporary == NULL ? ENOMEM : *file < 0 ? errno : 0;
     if (error != 0) {
         free(*temporary);
         *temporary = NULL;
     }
-    return error;
-}
-
-/* Makes a file beside a path, for what is to take that path when it is whole. Its name has the front of that path's name, unless the path
- * is too long with it. */
-static int make_temporary(const char *path, char **temporary, int *file)
-{
-    char base[BASE_ROOM];
-    char *folder = folder_of(path);
-
-    base_of(path, base);
-    *temporary = NULL;
-    *file = -1;
-    int error = folder == NULL ? ENOMEM : make_in(folder, base, temporary, file);
-    if (error == ENAMETOOLONG)
-        error = make_in(folder, "", temporary, file);
     free(folder);
     return error;
 }
@@ -216,8 +182,7 @@ static int make_temporary(const char *path, char **temporary, int *file)
 /* Closes a file that the disk has, if it is open, and removes what could not take its place. */
 static void drop_temporary(char *temporary, int file, bool is_placed)
 {
-    if (file >= 0)
-        close(file);
+    close_file(&file);
     if (temporary != NULL && !is_placed)
         unlink(temporary);
     free(temporary);
@@ -383,14 +348,21 @@ int keep_again(const struct text *text, struct copy *copy)
 
 /* ---- Files ---- */
 
-/* Whether a file may be replaced: it has what is known, or what it is to have. A file that is gone may come again, unless its disk is gone,
- * too: then what stands in its folder is hidden as soon as that disk is back. */
+/* Whether a file may be replaced: it has what is known, or what the host has put there, though the disk may lack it, or what it is to have;
+ * or it could not be read as that was told, and is the very same file. One that is gone may come again, unless its disk is gone, too: then
+ * what stands in its folder is hidden as soon as that disk is back. */
 static bool may_replace(struct request *request, struct content found)
 {
+    struct content known = request->known;
+    struct stat now;
+
     request->found = found;
     if (found.kind == NOT_THERE)
         return request->disk == 0 || disk_of_folder(request->path) == request->disk;
-    return is_same(found, request->known) || is_same(found, content_of(request->text));
+    if (known.kind == NOT_READ && stat(request->path, &now) == 0 && is_same(marks_of(&now), known))
+        return true;
+    known.kind = known.kind == NOT_SURE ? READ : known.kind;
+    return is_same(found, known) || is_same(found, content_of(request->text));
 }
 
 /* Gives a file another name. */
@@ -450,7 +422,7 @@ static int put_new(struct request *request, const struct stat *old)
             error = errno;
         if (error != 0)
             drop_theirs(request);
-        unlock_folder(folder);
+        close_file(&folder);
         is_placed = error == 0;
     }
     if (is_placed)
@@ -499,7 +471,7 @@ static int write_over(struct request *request, int file, const struct text *old)
         error = fill_again(file, request->text);
     if (error != 0 && error != IS_CHANGED && fill_again(file, old) != 0)
         request->old = kept.path;
-    unlock_folder(folder);
+    close_file(&folder);
     request->is_unsure = request->old != NULL;
     if (request->is_unsure)
         return error;
@@ -532,7 +504,7 @@ static int put_in_place(struct request *request, const struct stat *seen)
     int file, error = open_in_place(request, seen, &file);
 
     if (error == 0)
-        error = read_all(file, MOST_BYTES, &old);
+        error = read_all(file, &old);
     if (error == 0)
         error = may_replace(request, content_of(&old)) ? write_over(request, file, &old) : IS_CHANGED;
     if (file >= 0 && close(file) != 0 && error == 0)
@@ -560,5 +532,5 @@ int put_file(struct request *request)
     if (old.st_nlink > 1 || has_attributes(request->path))
         return put_in_place(request, &old);
     int error = put_new(request, &old);
-    return is_of_the_place(error) ? put_in_place(request, &old) : error;
+    return !request->is_unsure && is_of_the_place(error) ? put_in_place(request, &old) : error;
 }

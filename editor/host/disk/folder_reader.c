@@ -2,9 +2,9 @@
  *
  * Files of a folder come before those of the folders in it, by their names. None is taken that is hidden or below a link to a folder.
  */
-#define _XOPEN_SOURCE 700
-#include <dirent.h>
+#define _GNU_SOURCE
 #include <errno.h>
+#include <fts.h>
 #include <stdlib.h>
 #include <string.h>
 #include <sys/stat.h>
@@ -12,11 +12,7 @@
 #include "disk/folder_reader.h"
 #include "disk/errors.h"
 #include "disk/file_reader.h"
-#include "disk/paths.h"
-#include "log.h"
-#include "session/ending.h"
 #include "session/session.h"
-#include "sulgrevad.h"
 
 enum {
     MOST_OFFERED = 200, /* files that are taken of one folder */
@@ -34,22 +30,22 @@ struct offer {
     int status;       /* why the session can't begin; else STATUS_OK */
 };
 
-bool has_mark(const struct marks *marks, const struct stat *status)
+bool has_mark(const struct marks *marks, const struct identity *wanted)
 {
-    for (size_t at = 0; at < marks->count; at++) {
-        if (marks->items[at].device == status->st_dev && marks->items[at].inode == status->st_ino)
-            return true;
-    }
-    return false;
+    size_t at = 0;
+
+    while (at < marks->count && !is_one_file(&marks->items[at], wanted))
+        at++;
+    return at < marks->count;
 }
 
-int add_mark(struct marks *marks, dev_t device, ino_t inode)
+int add_mark(struct marks *marks, const struct identity *identity)
 {
-    struct mark *items = realloc(marks->items, (marks->count + 1) * sizeof *items);
+    struct identity *items = realloc(marks->items, (marks->count + 1) * sizeof *items);
 
     if (items == NULL)
         return ENOMEM;
-    items[marks->count] = (struct mark){device, inode};
+    items[marks->count] = *identity;
     marks->items = items;
     marks->count++;
     return 0;
@@ -62,7 +58,10 @@ static void offer_file(struct offer *offer, const char *path)
     uint16_t tag;
     struct text text = {0};
 
-    if (stat(path, &status) != 0 || S_ISDIR(status.st_mode) || has_mark(offer->marks, &status))
+    if (stat(path, &status) != 0 || S_ISDIR(status.st_mode))
+        return;
+    struct identity identity = identity_of(&status);
+    if (has_mark(offer->marks, &identity))
         return;
     offer->is_full = offer->taken >= MOST_OFFERED || offer->seen >= MOST_SEEN;
     if (offer->is_full)
@@ -73,7 +72,7 @@ static void offer_file(struct offer *offer, const char *path)
         error = text.len > 0 && memchr(text.bytes, '\0', text.len) != NULL ? NOT_TEXT : add_text(offer->session, path, &text, &tag);
     free(text.bytes);
     if (error == 0)
-        error = add_mark(offer->marks, status.st_dev, status.st_ino);
+        error = add_mark(offer->marks, &identity);
     if (error == ENOMEM)
         offer->status = STATUS_MEMORY;
     else if (error == 0)
@@ -82,55 +81,40 @@ static void offer_file(struct offer *offer, const char *path)
         offer->left_out++;
 }
 
-static int is_shown(const struct dirent *entry)
+/* Files of a folder come before the folders in it, each by their names. */
+static int compare_entries(const FTSENT **one, const FTSENT **other)
 {
-    return entry->d_name[0] != '.';
+    int by_kind = ((*one)->fts_info == FTS_D) - ((*other)->fts_info == FTS_D);
+
+    return by_kind != 0 ? by_kind : strcmp((*one)->fts_name, (*other)->fts_name);
 }
 
-/* Takes the files in a folder, whose path ends in a slash, and then those of the folders in it. */
-static void offer_folder(struct offer *offer, const char *folder)
+static void offer_entry(struct offer *offer, FTS *tree, FTSENT *entry)
 {
-    struct dirent **entries = NULL;
-
-    offer->is_too_deep |= offer->folders >= MOST_FOLDERS;
-    if (offer->is_too_deep)
-        return;
-    offer->folders++;
-    int count = scandir(folder, &entries, is_shown, alphasort);
-    if (count < 0)
-        say("%s: %s", folder, cause(errno));
-    for (int round = 0; round < 2; round++) {
-        for (int at = 0; at < count && offer->status == STATUS_OK && !offer->is_full && !offer->is_too_deep; at++) {
-            struct stat status;
-            char *path = formatted("%s%s", folder, entries[at]->d_name), *inner = path == NULL ? NULL : formatted("%s/", path);
-            if (inner == NULL)
-                offer->status = STATUS_MEMORY;
-            else if (round == 1 && lstat(path, &status) == 0 && S_ISDIR(status.st_mode))
-                offer_folder(offer, inner);
-            else if (round == 0)
-                offer_file(offer, path);
-            free(inner);
-            free(path);
-        }
-    }
-    for (int at = 0; at < count; at++)
-        free(entries[at]);
-    free(entries);
+    if (entry->fts_level > 0 && entry->fts_name[0] == '.')
+        (void)fts_set(tree, entry, FTS_SKIP);
+    else if (entry->fts_info == FTS_DNR)
+        say("%s: %s", entry->fts_path, cause(entry->fts_errno));
+    else if (entry->fts_info == FTS_D)
+        offer->is_too_deep = ++offer->folders > MOST_FOLDERS;
+    else if (entry->fts_info != FTS_DP)
+        offer_file(offer, entry->fts_path);
 }
 
-int add_folder(struct session *session, const char *path, struct marks *marks)
+int add_folder(struct session *session, char *path, struct marks *marks)
 {
     struct offer offer = {.session = session, .marks = marks};
-    size_t len = strlen(path);
-    char *folder = formatted(len > 0 && path[len - 1] == '/' ? "%s" : "%s/", path);
+    char *const paths[] = {path, NULL};
+    FTS *tree = fts_open(paths, FTS_PHYSICAL | FTS_COMFOLLOW | FTS_NOCHDIR, compare_entries);
+    FTSENT *entry = NULL;
 
-    if (folder == NULL)
-        offer.status = STATUS_MEMORY;
-    else
-        offer_folder(&offer, folder);
-    free(folder);
-    if (offer.status == STATUS_MEMORY)
-        say("%s: %s", path, cause(ENOMEM));
+    while (tree != NULL && offer.status == STATUS_OK && !offer.is_full && !offer.is_too_deep && (entry = fts_read(tree)) != NULL)
+        offer_entry(&offer, tree, entry);
+    int error = offer.status == STATUS_MEMORY ? ENOMEM : entry == NULL ? errno : 0;
+    if (tree != NULL)
+        (void)fts_close(tree);
+    if (error != 0)
+        say("%s: %s", path, cause(error));
     else if (offer.is_full)
         say("%s has more files; the first %d are offered", path, offer.taken);
     else if (offer.is_too_deep)
@@ -139,5 +123,5 @@ int add_folder(struct session *session, const char *path, struct marks *marks)
         say("%s has no text files", path);
     if (offer.left_out > 0)
         say("%s: %d files are left out, as they are no UTF-8 text, are too long or can't be read", path, offer.left_out);
-    return offer.status;
+    return error == ENOMEM ? STATUS_MEMORY : STATUS_OK;
 }

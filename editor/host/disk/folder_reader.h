@@ -4,28 +4,22 @@
 
 #include <stdbool.h>
 #include <stddef.h>
-#include <sys/stat.h>
-#include <sys/types.h>
+
+#include "disk/file_reader.h"
 
 struct session;
 
-/* Files that were taken, or folders that were looked through, by device and inode. */
-struct mark {
-    dev_t device;
-    ino_t inode;
-};
-
+/* Files that were taken, or folders that were looked through. */
 struct marks {
-    struct mark *items;
+    struct identity *items;
     size_t count;
 };
 
-/* Whether a file was taken or a folder looked through, and that it was. */
-bool has_mark(const struct marks *marks, const struct stat *status);
-int add_mark(struct marks *marks, dev_t device, ino_t inode);
+bool has_mark(const struct marks *marks, const struct identity *wanted);
+int add_mark(struct marks *marks, const struct identity *identity);
 
 /* Reads the text files below a folder into the host, but for those that were taken, and says how many it leaves out. Returns the exit
  * status. */
-int add_folder(struct session *session, const char *path, struct marks *marks);
+int add_folder(struct session *session, char *path, struct marks *marks);
 
 #endif

@@ -12,13 +12,11 @@
 
 #include "disk/paths.h"
 #include "disk/errors.h"
-#include "limits.h"
 
 enum {
-    MOST_LINKS = 40,   /* symbolic links that are followed */
-    LINK_ROOM = 4096,  /* bytes of a path that a link has */
-    HASH_ROOM = 18,    /* bytes of a dash, a hash in hexadecimal digits, and the zero after it */
-    ROOM_FIRST = 65536 /* bytes that a file is expected to have */
+    MOST_LINKS = 40,  /* symbolic links that are followed */
+    LINK_ROOM = 4096, /* bytes of a path that a link has */
+    HASH_ROOM = 18    /* bytes of a dash, a hash in hexadecimal digits, and the zero after it */
 };
 
 /* FNV-1a of 64 bits. It has to show that a file has changed, not to withstand an attack. */
@@ -42,35 +40,52 @@ char *formatted(const char *format, ...)
     return line;
 }
 
-char *folder_of(const char *path)
+const char *last_of(const char *path)
 {
     const char *slash = strrchr(path, '/');
 
-    return formatted("%.*s", slash == NULL ? 0 : (int)(slash - path + 1), path);
+    return slash == NULL ? path : slash + 1;
+}
+
+char *folder_of(const char *path)
+{
+    return formatted("%.*s", (int)(last_of(path) - path), path);
+}
+
+int open_folder(const char *path)
+{
+    char *folder = folder_of(path);
+    int file = folder == NULL ? -1 : open(*folder == '\0' ? "." : folder, O_RDONLY | O_DIRECTORY | O_CLOEXEC);
+
+    free(folder);
+    return file;
+}
+
+int stat_folder(const char *path, struct stat *status)
+{
+    char *folder = folder_of(path);
+    int error = folder == NULL ? ENOMEM : stat(*folder == '\0' ? "." : folder, status) != 0 ? errno : 0;
+
+    free(folder);
+    return error;
 }
 
 dev_t disk_of_folder(const char *path)
 {
     struct stat status;
-    char *folder = folder_of(path);
-    dev_t disk = folder != NULL && stat(*folder == '\0' ? "." : folder, &status) == 0 ? status.st_dev : 0;
 
-    free(folder);
-    return disk;
+    return stat_folder(path, &status) == 0 ? status.st_dev : 0;
 }
 
 void base_of(const char *path, char base[BASE_ROOM])
 {
-    const char *slash = strrchr(path, '/'), *last = slash == NULL ? path : slash + 1;
-
-    if (*last == '\0') /* a copy of this name would be hidden */
-        last = "unnamed";
+    const char *last = *last_of(path) == '\0' ? CUT : last_of(path);
     size_t len = strlen(last);
     char end[HASH_ROOM] = "";
 
-    if (len >= BASE_ROOM) {
-        snprintf(end, sizeof end, "-%016" PRIx64, content_of(&(struct text){(uint8_t *)last, len}).hash);
-        len = BASE_ROOM - sizeof end;
+    if (len >= BASE_ROOM || strcmp(last_of(path), CUT) == 0) {
+        snprintf(end, sizeof end, "-%016" PRIx64, hash_of(last));
+        len = len < BASE_ROOM ? len : BASE_ROOM - sizeof end;
         while (len > 0 && ((unsigned char)last[len] & 0xC0) == 0x80)
             len--;
     }
@@ -123,6 +138,11 @@ struct content content_of(const struct text *text)
     return content;
 }
 
+uint64_t hash_of(const char *words)
+{
+    return content_of(&(struct text){(uint8_t *)words, strlen(words)}).hash;
+}
+
 struct content marks_of(const struct stat *status)
 {
     const uint64_t marks[] = {
@@ -148,8 +168,7 @@ struct content content_at(const char *path)
     int file = S_ISREG(status.st_mode) ? open(path, O_RDONLY | O_NONBLOCK | O_CLOEXEC) : -1;
     while (file >= 0 && content.len <= MOST_BYTES && (count = read(file, piece, sizeof piece)) > 0)
         add_bytes(&content, piece, (size_t)count);
-    if (file >= 0)
-        close(file);
+    close_file(&file);
     return count == 0 ? content : marks_of(&status);
 }
 
@@ -158,34 +177,26 @@ bool is_same(struct content one, struct content other)
     return one.kind == other.kind && one.hash == other.hash && one.len == other.len;
 }
 
-int read_all(int file, size_t most, struct text *text)
+int read_all(int file, struct text *text)
 {
-    size_t room = ROOM_FIRST;
     ssize_t count = 1;
-    int error = 0;
 
-    *text = (struct text){.bytes = malloc(room)};
+    *text = (struct text){.bytes = malloc(MOST_BYTES + 1)};
     if (text->bytes == NULL)
         return ENOMEM;
-    while (error == 0 && count > 0) {
-        if (text->len == room) {
-            uint8_t *more = realloc(text->bytes, 2 * room);
-            if (more == NULL) {
-                error = ENOMEM;
-                break;
-            }
-            text->bytes = more;
-            room *= 2;
-        }
-        count = read(file, text->bytes + text->len, room - text->len);
-        if (count < 0)
-            error = errno;
-        else if ((text->len += (size_t)count) > most)
-            error = TEXT_TOO_LONG;
-    }
+    while (text->len <= MOST_BYTES && (count = read(file, text->bytes + text->len, MOST_BYTES + 1 - text->len)) > 0)
+        text->len += (size_t)count;
+    int error = count < 0 ? errno : count > 0 ? TEXT_TOO_LONG : 0;
     if (error != 0) {
         free(text->bytes);
         *text = (struct text){0};
     }
     return error;
+}
+
+void close_file(int *file)
+{
+    if (*file >= 0)
+        close(*file);
+    *file = -1;
 }

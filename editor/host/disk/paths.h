@@ -17,9 +17,9 @@ struct text {
 };
 
 /* What a file has, by which a change is found: the hash of its bytes, or where they can't be read that of its marks (device, inode,
- * times of change). */
+ * times of change). Not sure: a write has failed. The hash is that of what was written, but the disk may have anything. */
 struct content {
-    enum { NOT_THERE, READ, NOT_READ, NOT_SURE } kind; /* not sure: a write has failed, and the disk may have anything */
+    enum { NOT_THERE, READ, NOT_READ, NOT_SURE } kind;
     uint64_t hash, len;
 };
 
@@ -29,14 +29,28 @@ char *formatted(const char *format, ...);
 /* The folder of a path, with the slash at its end, in memory of its own: "" for a name alone. */
 char *folder_of(const char *path);
 
+/* The last part of a path. */
+const char *last_of(const char *path);
+
+/* Opens the folder of a path, where it can be, else -1; and what the system says of it, else an error number. */
+int open_folder(const char *path);
+int stat_folder(const char *path, struct stat *status);
+
 /* The device that the folder of a path is on; 0 where that isn't known. */
 dev_t disk_of_folder(const char *path);
 
-/* The last part of a path; of one that is too long its front, in whole runes, and its hash, since other names may have that front. */
+#define CUT "cut" /* what names of copies begin with of what was cut last */
+
+/* What names of a file's copies begin with: the last part of its path; of one that is too long its front, in whole runes, and its hash,
+ * since other names may have that front. A file that is named CUT gets a hash, too, and CUT is for the path without a last part, which no
+ * file has. */
 void base_of(const char *path, char base[BASE_ROOM]);
 
 /* The path that symbolic links at the end of a path lead to, in memory of the caller's. Nothing needs to be there. */
 int end_of_links(const char *path, char **end);
+
+/* The hash of words. */
+uint64_t hash_of(const char *words);
 
 struct content content_of(const struct text *text);
 struct content content_at(const char *path);
@@ -45,7 +59,10 @@ struct content content_at(const char *path);
 struct content marks_of(const struct stat *status);
 bool is_same(struct content one, struct content other);
 
-/* Reads all of an open file, of at most `most` bytes, into memory of the caller's. TEXT_TOO_LONG where it has more. */
-int read_all(int file, size_t most, struct text *text);
+/* Reads all of an open file into memory of the caller's. TEXT_TOO_LONG where it has more than a text may have. */
+int read_all(int file, struct text *text);
+
+/* Closes a file, where it is one, which is -1 then. */
+void close_file(int *file);
 
 #endif

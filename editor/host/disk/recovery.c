@@ -6,28 +6,18 @@
 #define _XOPEN_SOURCE 700
 #include <dirent.h>
 #include <errno.h>
-#include <pwd.h>
 #include <stdlib.h>
 #include <string.h>
 #include <sys/stat.h>
 #include <unistd.h>
 
 #include "disk/recovery.h"
-#include "disk/autosave.h"
-#include "disk/cut_backup.h"
 #include "disk/errors.h"
 #include "disk/fallback_directories.h"
 #include "disk/file_reader.h"
-#include "disk/file_writer.h"
 #include "disk/folder_reader.h"
-#include "disk/paths.h"
 #include "disk/saves.h"
-#include "limits.h"
-#include "log.h"
-#include "session/document.h"
-#include "session/messages.h"
 #include "session/session.h"
-#include "sulgrevad.h"
 
 enum {
     TIME_ROOM = 32,   /* bytes of a time in words */
@@ -43,7 +33,7 @@ struct search {
     bool is_late;         /* it is of a file that has joined a session which had begun */
     int offered;          /* how many */
     int foreign;          /* copies that are another user's */
-    char *first_foreign;  /* what is said of the first of them */
+    char *first_foreign;  /* the path of the first of them */
     bool is_short;        /* something was not looked at, since memory is out */
 };
 
@@ -86,12 +76,10 @@ static bool has_suffix(const char *entry, const char *suffix, size_t *len)
 static bool lies_in(struct search *search, const char *path, const struct folder *folder)
 {
     struct stat status;
-    char *own = folder_of(path);
-    bool is_there = own != NULL && stat(*own == '\0' ? "." : own, &status) == 0;
+    int error = stat_folder(path, &status);
 
-    search->is_short |= own == NULL;
-    free(own);
-    return is_there && status.st_dev == folder->device && status.st_ino == folder->inode;
+    search->is_short |= error == ENOMEM;
+    return error == 0 && status.st_dev == folder->device && status.st_ino == folder->inode;
 }
 
 /* Whether the front of an entry's name is what names of a file's copies begin with: beside it, or in a folder for copies. Hands out the
@@ -140,17 +128,6 @@ static void offer(struct search *search, size_t tag, const struct left *left)
     free(name);
 }
 
-/* Notes that a copy is another user's, and whose. */
-static void add_foreign(struct search *search, const char *path, uid_t owner)
-{
-    const struct passwd *user = search->foreign++ == 0 ? getpwuid(owner) : NULL;
-
-    if (search->foreign == 1 && user != NULL)
-        search->first_foreign = formatted("%s is of another user, %s", path, user->pw_name);
-    else if (search->foreign == 1)
-        search->first_foreign = formatted("%s is of another user, %lu", path, (unsigned long)owner);
-}
-
 /* Whether a copy is the user's own. Those that root makes of files of others are given to these. */
 static bool is_users(const struct stat *copy, const char *of)
 {
@@ -171,7 +148,8 @@ static bool look_at(struct search *search, const char *place, const char *entry,
     if (is_users(&left->status, of))
         left->is_read = read_unlinked(left->path, &left->text, &left->status) == 0;
     if (!is_users(&left->status, of)) { /* as it is, or as it was opened */
-        add_foreign(search, left->path, left->status.st_uid);
+        if (search->foreign++ == 0)
+            search->first_foreign = formatted("%s", left->path);
         return false;
     }
     const struct timespec *saved = &left->status.st_mtim, *written = &file.st_mtim;
@@ -196,53 +174,40 @@ static struct event earlier_text(enum sam_note_code code, size_t tag, const char
     };
 }
 
-/* Reports a text that was not written. One that its file has already is of no use any more. */
-static void report_saved(struct search *search, size_t tag, const char *place, const char *entry)
+/* Tells of a text that was not written, and offers it. One that its file has already is of no use any more. */
+static void report_saved(struct search *search, size_t tag, const char *path, const struct left *left)
 {
-    const struct document *document = &search->session->documents[tag];
-    struct left left = {0};
+    struct event event = earlier_text(left->is_newer ? SAM_NOTE_NEWER : SAM_NOTE_OLDER, tag, path, left);
+    bool is_written = left->is_read && is_same(content_of(&left->text), content_at(path));
 
-    if (look_at(search, place, entry, document->path, &left) && owner_at(search->session, left.path) == NULL) {
-        bool is_written = left.is_read && is_same(content_of(&left.text), content_at(document->path));
-        if (!is_written || left.status.st_uid != geteuid() || unlink(left.path) != 0) {
-            struct event event = earlier_text(left.is_newer ? SAM_NOTE_NEWER : SAM_NOTE_OLDER, tag, document->path, &left);
-            if (search->is_late) /* a message of its own says to a terminal that the text is offered */
-                event = (struct event){.kind = SAM_NOTE_SAID};
-            tell(&event, "%s has a text that was not written: it is in %s, of %s, %s than the file", document->path, left.path, left.when,
-                 left.is_newer ? "newer" : "older");
-            if (search->offers)
-                offer(search, tag, &left);
-        }
-    }
-    free_left(&left);
+    if (is_copy_at(search->session, left->path) || (is_written && left->status.st_uid == geteuid() && unlink(left->path) == 0))
+        return;
+    if (search->is_late) /* a message of its own says to a terminal that the text is offered */
+        event = (struct event){.kind = SAM_NOTE_SAID};
+    tell(&event, "%s has a text that was not written: it is in %s, of %s, %s than the file", path, left->path, left->when,
+         left->is_newer ? "newer" : "older");
+    if (search->offers)
+        offer(search, tag, left);
 }
 
-/* Reports what a file was before a write that may have been broken off. */
-static void report_old(struct search *search, size_t tag, const char *place, const char *entry)
-{
-    const struct document *document = &search->session->documents[tag];
-    struct left left = {0};
-
-    if (look_at(search, place, entry, document->path, &left)) {
-        struct event event = earlier_text(SAM_NOTE_BROKEN, tag, document->path, &left);
-        tell(&event, "%s may be broken: what it was before a write is in %s", document->path, left.path);
-    }
-    free_left(&left);
-}
-
-/* Reports a copy where it is one of a file of the session, as it is named or as its symbolic links name it. */
+/* Reports a copy where it is one of a file of the session, as it is named or as its symbolic links name it: a text that was not written, or
+ * what the file was before a write that may have been broken off. */
 static void report_copy(struct search *search, const struct folder *folder, const char *entry, size_t len, bool is_old)
 {
     for (size_t tag = search->first; tag < search->tags; tag++) {
         const struct document *document = &search->session->documents[tag];
+        const char *path = document->path;
+        struct left left = {0};
         char *place = NULL;
-        if (!is_copy_of(search, document->path, folder, entry, len, &place) &&
-            !is_copy_of(search, document->known->path, folder, entry, len, &place))
-            continue;
-        if (is_old)
-            report_old(search, tag, place, entry);
-        else
-            report_saved(search, tag, place, entry);
+        bool is_its_own =
+            is_copy_of(search, path, folder, entry, len, &place) || is_copy_of(search, document->known->path, folder, entry, len, &place);
+        bool is_seen = is_its_own && look_at(search, place, entry, path, &left);
+        struct event event = earlier_text(SAM_NOTE_BROKEN, tag, path, &left);
+        if (is_seen && is_old)
+            tell(&event, "%s may be broken: what it was before a write is in %s", path, left.path);
+        else if (is_seen)
+            report_saved(search, tag, path, &left);
+        free_left(&left);
         free(place);
     }
 }
@@ -303,14 +268,15 @@ static void report_folder(struct search *search, char *path, bool is_own)
     struct stat status;
     const char *name = path == NULL || *path != '\0' ? path : ".";
     bool is_there = name != NULL && stat(name, &status) == 0;
-    bool is_new = is_there && !has_mark(&search->folders, &status);
+    struct identity identity = is_there ? identity_of(&status) : (struct identity){0};
+    bool is_new = is_there && !has_mark(&search->folders, &identity);
     DIR *entries = is_new ? opendir(name) : NULL;
 
     search->is_short |= path == NULL;
     if (is_new && entries == NULL)
         say("%s can't be looked through for what is left of earlier sessions: %s", name, cause(errno));
     if (is_new)
-        (void)add_mark(&search->folders, status.st_dev, status.st_ino); /* where memory is out, it may be reported twice */
+        (void)add_mark(&search->folders, &identity); /* where memory is out, it may be reported twice */
     if (entries != NULL) {
         struct folder folder = {path, status.st_dev, status.st_ino, is_own};
         for (struct dirent *entry = readdir(entries); entry != NULL; entry = readdir(entries))
@@ -335,11 +301,9 @@ static void report_folders(struct search *search)
     }
     if (!search->is_late)
         report_folder(search, formatted(""), false);
-    if (search->foreign > 1)
-        say("%s, and is not offered; nor are %d more", search->first_foreign == NULL ? "a copy" : search->first_foreign,
-            search->foreign - 1);
-    else if (search->foreign == 1)
-        say("%s, and is not offered", search->first_foreign == NULL ? "a copy" : search->first_foreign);
+    if (search->foreign > 0)
+        say("copies of other users are not offered: %s%s", search->first_foreign == NULL ? "one" : search->first_foreign,
+            search->foreign > 1 ? " and more" : "");
     free(search->first_foreign);
     if (search->is_short)
         say("out of memory: not all that is left of earlier sessions was looked for");

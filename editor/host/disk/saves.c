@@ -7,21 +7,13 @@
 #include <errno.h>
 #include <stdlib.h>
 #include <string.h>
-#include <sys/stat.h>
 #include <unistd.h>
 
 #include "disk/saves.h"
-#include "disk/autosave.h"
 #include "disk/errors.h"
-#include "disk/file_writer.h"
-#include "disk/paths.h"
 #include "journal/journal_records.h"
-#include "limits.h"
-#include "session/document.h"
-#include "session/messages.h"
 #include "session/persistent_session.h"
 #include "session/session.h"
-#include "sulgrevad.h"
 
 char *from_folder(struct session *session, const char *path)
 {
@@ -42,10 +34,10 @@ char *path_of(struct session *session, uint16_t tag, int *error)
     if (code != SAM_OK)
         len = 0;
     name[len] = '\0';
-    *error = len == 0 || strlen(name) != len ? NO_NAME : 0;
+    bool is_cut = document->held.bytes != NULL || (document->shown != NULL && strcmp(name, document->shown) == 0);
+    *error = !is_cut && (*last_of(name) == '\0' || strlen(name) != len) ? NO_NAME : 0;
     if (*error != 0)
         return NULL;
-    bool is_cut = document->shown != NULL && strcmp(name, document->shown) == 0;
     char *path = from_folder(session, is_cut ? document->path : name);
     *error = path == NULL ? ENOMEM : 0;
     return path;
@@ -82,31 +74,30 @@ int remember_content(struct document *document, const char *path, struct content
     return 0;
 }
 
-/* Notes what a request expects in its file: what the host has saved there for a document (`owner`), else what this one has read there or
- * written last. */
-static void expect_known(struct request *request, const struct document *document, const struct document *owner)
+/* Notes what a request expects in its file: what the document has read there or written last. */
+static void expect_known(struct request *request, const struct document *document)
 {
     const struct known *known = find_known(document, request->path);
 
     if (known != NULL) {
         request->known = known->content;
         request->disk = known->content.kind == NOT_THERE ? 0 : known->disk;
-        request->is_theirs = owner == NULL && known->is_theirs;
+        request->is_theirs = known->is_theirs;
     }
-    if (owner != NULL)
-        request->known = owner->aside.content;
 }
 
 /* ---- Writing ---- */
 
 /* After an attempt to write: notes what the file has, and lets go of the copy of a text that is written. Where memory is
  * out, a file is not noted, and is taken for another program's at the next write; so is one of which the disk may have anything. */
-static void remember_put(struct document *document, const struct request *request, int error, bool is_copy)
+static void remember_put(struct document *document, const struct request *request, int error)
 {
-    if (error == 0)
-        (void)remember_content(document, request->path, content_of(request->text));
-    else if (request->is_unsure)
-        (void)remember_content(document, request->path, (struct content){.kind = NOT_SURE});
+    struct content put = content_of(request->text);
+    bool is_copy = document->aside.path != NULL && strcmp(document->aside.path, request->path) == 0;
+
+    put.kind = request->is_unsure ? NOT_SURE : READ;
+    if (error == 0 || request->is_unsure)
+        (void)remember_content(document, request->path, put);
     else if (error == IS_CHANGED && is_same(request->found, request->known)) /* another file with the same text */
         (void)remember_content(document, request->path, request->found);
     else if (error == IS_CHANGED && remember_content(document, request->path, request->found) == 0)
@@ -117,43 +108,55 @@ static void remember_put(struct document *document, const struct request *reques
         drop_copy(&document->aside);
 }
 
-/* Why a file was not written, which may have changed since it was read: in words of its own where it isn't there now, or wasn't then. */
+/* Whether what a file was before a write in place is still beside it. */
+static bool has_old(const char *path)
+{
+    char *old = formatted("%s" OLD, path);
+    bool has_it = old != NULL && access(old, F_OK) == 0;
+
+    free(old);
+    return has_it;
+}
+
+/* Why a file was not written, which may have changed since it was read: in words of its own where it isn't there now, or wasn't then, or
+ * can't be read, or where a write may have broken off. */
 static int in_its_own_words(int error, const struct request *request)
 {
     if (error != IS_CHANGED)
         return error;
-    return request->known.kind == NOT_THERE ? IS_THERE : request->found.kind == NOT_THERE ? IS_GONE : IS_CHANGED;
+    return request->known.kind == NOT_THERE   ? IS_THERE
+           : request->found.kind == NOT_THERE ? IS_GONE
+           : request->found.kind == NOT_READ  ? NOT_SEEN
+           : has_old(request->path)           ? MAY_BE_BROKEN
+                                              : IS_CHANGED;
 }
 
 /* Puts the text of a file where its path leads to. Hands out where what another program had written there is now, else NULL. */
 static int put_text(struct session *session, uint16_t tag, const char *path, char **theirs)
 {
-    struct document *document = &session->documents[tag], *owner = NULL;
+    struct document *document = &session->documents[tag];
     struct request request = {.text = &session->text, .mode = session->mode_of_new_files};
     char *end = NULL;
     int error = end_of_links(path, &end);
 
     write_line(session); /* what follows may take long */
     if (error == 0) {
-        owner = owner_at(session, end);
         request.path = end;
-        expect_known(&request, document, owner);
-    }
-    if (owner != NULL && owner != document)
-        error = move_aside(session, owner);
-    if (error == 0)
+        expect_known(&request, document);
         error = take_text(session, tag);
+    }
     if (error == 0) {
         error = put_file(&request);
-        remember_put(document, &request, error, owner == document);
+        remember_put(document, &request, error);
     }
     if (request.old != NULL)
         tell(&(struct event){.kind = SAM_NOTE_ASIDE, .code = SAM_NOTE_BROKEN, .tag = tag, .path = path, .copy = request.old},
              "%s is broken; what it was is in %s", path, request.old);
     free(request.old);
-    free(end);
     *theirs = request.theirs;
-    return in_its_own_words(error, &request);
+    error = in_its_own_words(error, &request);
+    free(end);
+    return error;
 }
 
 /* Saves a text that was not written, and answers why it was not, and where it is. */

@@ -8,16 +8,16 @@
  * much was on the disk when it was made, and an empty one is added after each sync to say so: what is wrong before that is damage, and what
  * is wrong behind it is torn.
  *
- * Where the file can't be written any more it loses its name, since one that lacks a step is of no use, and records are held in memory.
- * From time to time another file is tried: it gets what the old one had, and what is held, and then the name. But where the session is kept
- * the file keeps its name: no step comes any more, and a text may stand nowhere else.
+ * Memory has what the disk may lack: all since the last sync. Where the file can't be written any more it gets another name, since no
+ * session goes on from one that lacks a step, and from time to time that is written once more, from the same place on. Then it has its name
+ * again. Where samhost is killed before, the texts that it has are saved aside. Where the session is kept the file keeps its name: no step
+ * comes any more.
  */
 #define _GNU_SOURCE
 #include <errno.h>
 #include <fcntl.h>
-#include <stdio.h>
+#include <stdio.h> /* renameat */
 #include <stdlib.h>
-#include <string.h>
 #include <sys/mman.h>
 #include <sys/random.h>
 #include <sys/stat.h>
@@ -27,65 +27,59 @@
 
 #include "journal/journal.h"
 #include "disk/errors.h"
-#include "disk/paths.h"
 #include "journal/journal_records.h"
-#include "limits.h"
-#include "log.h"
 #include "net/event_loop.h"
-#include "session/messages.h"
-#include "session/persistent_session.h"
 #include "session/session.h"
-#include "session/session_directory.h"
-#include "sulgrevad.h"
 
 enum {
-    MOST_BODY = 1 << 26, /* bytes of the body of a record */
-    MOST_HELD = 1 << 26, /* bytes of records that are held */
-    FIRST_PAUSE = 1000,  /* milliseconds until a journal is begun anew; each time that fails, twice as many, up to: */
+    MOST_BODY = 1 << 26,     /* bytes of the body of a record */
+    MOST_HELD = 1 << 26,     /* bytes of records that wait for a file which can't be written */
+    MOST_UNSYNCED = 1 << 22, /* bytes behind which there is a sync while more is to come */
+    FIRST_PAUSE = 1000,      /* milliseconds until a journal is tried again; each time that fails, twice as many, up to: */
     LONGEST_PAUSE = 30000,
-    MOST_BEHIND = 1 << 26 /* bytes behind the whole records in which others are looked for */
+    MOST_BEHIND = 1 << 26, /* bytes behind the whole records in which others are looked for */
+    RENEWALS = 72          /* how often the time is renewed, while a terminal is there, in as long as the session may be alone */
 };
 
 /* ---- Writing ---- */
 
-static int write_all(int file, struct iovec *parts, int count)
+/* Writes of what the disk may lack all that the file lacks. */
+static int write_held(struct journal *journal)
 {
-    while (count > 0) {
-        ssize_t done = writev(file, parts, count);
-        if (done < 0 && errno != EINTR)
+    struct body *held = &journal->held;
+
+    while (journal->written < held->len) {
+        struct iovec part = {held->bytes + journal->written, held->len - journal->written};
+        ssize_t count = writev(journal->file, &part, 1);
+        if (count < 0 && errno != EINTR)
             return errno;
-        for (; done > 0; parts++, count--) {
-            if ((size_t)done < parts->iov_len) {
-                parts->iov_base = (uint8_t *)parts->iov_base + done;
-                parts->iov_len -= (size_t)done;
-                break;
-            }
-            done -= (ssize_t)parts->iov_len;
-        }
-        while (count > 0 && parts->iov_len == 0)
-            parts++, count--;
+        journal->written += count > 0 ? (size_t)count : 0;
     }
     return 0;
 }
 
-/* Holds bytes of records, as far as there is room for them. */
-static int hold(struct body *held, const struct iovec *parts, int count)
+/* Has it be on the disk. */
+static int flush(struct journal *journal)
 {
-    for (int at = 0; at < count; at++) {
-        if (held->len + parts[at].iov_len > MOST_HELD)
-            return ENOMEM;
-        add_raw(held, parts[at].iov_base, parts[at].iov_len);
-    }
-    return held->is_short ? ENOMEM : 0;
+    int error = write_held(journal);
+
+    if (error == 0 && fdatasync(journal->file) != 0)
+        error = errno;
+    if (error != 0)
+        return error;
+    journal->end.durable = journal->end.at;
+    free(journal->held.bytes);
+    journal->held = (struct body){0};
+    journal->written = 0;
+    return 0;
 }
 
 void close_journal(struct journal *journal)
 {
-    if (journal->file >= 0)
-        close(journal->file);
+    close_file(&journal->file);
     free(journal->held.bytes);
     free(journal->turn.bytes);
-    *journal = (struct journal){.file = -1, .lost = journal->lost, .damaged_at = journal->damaged_at, .in_turn = journal->in_turn};
+    *journal = (struct journal){.file = -1, .lost = journal->lost, .end = journal->end, .in_turn = journal->in_turn};
 }
 
 void drop_turn(struct journal *journal)
@@ -93,56 +87,77 @@ void drop_turn(struct journal *journal)
     journal->turn.len = journal->in_turn = 0;
 }
 
+/* No session goes on from the journal that is there, unless this one is kept. */
+static void lay_aside(struct session *session)
+{
+    const struct home *home = &session->home;
+    bool is_moved = !session->is_kept && renameat(home->folder, JOURNAL, home->folder, UNFINISHED_JOURNAL) == 0;
+
+    if (is_moved && session->journal.state == IN_PLACE)
+        session->journal.state = UNFINISHED;
+    (void)sync_home(home); /* else a power cut could give it its name again */
+}
+
 void hold_journal(struct session *session, int error)
 {
-    struct journal *journal = &session->stay->journal;
-    const struct home *home = &session->stay->home;
+    struct journal *journal = &session->journal;
 
     journal->is_held = true;
     journal->pause = FIRST_PAUSE;
     journal->due = now() + FIRST_PAUSE;
     journal->lost = error;
-    if (!session->stay->is_kept)
-        (void)unlinkat(home->folder, JOURNAL, 0);
-    (void)unlinkat(home->folder, NEW_JOURNAL, 0);
-    sync_home(home); /* else a power cut could bring it back */
+    lay_aside(session);
 }
 
-/* A record is missing, so none is added any more. Unless the session is kept, there is no journal then, and none comes back. */
+/* A record is missing, so none is added any more. Unless the session is kept, there is no whole journal then, and none comes back. */
 static void end_journal(struct session *session, int error)
 {
-    if (!session->stay->journal.is_held)
+    if (!session->journal.is_held)
         hold_journal(session, error);
-    close_journal(&session->stay->journal);
+    close_journal(&session->journal);
 }
 
-/* Writes the next record, of this body, or holds it. */
-static int write_record(struct journal *journal, const uint8_t *body, size_t len)
+/* Makes room in a body. Returns whether there is memory for that: else it lacks nothing yet. */
+static bool has_room_in(struct body *body, size_t more)
 {
+    bool has_some = has_room(body, more);
+
+    body->is_short &= has_some;
+    return has_some;
+}
+
+/* Adds the next record, of this body, to what the disk may lack. */
+static int add_record(struct journal *journal, const uint8_t *body, size_t len)
+{
+    struct body *held = &journal->held;
     sam_record_frame frame;
 
     if (len > MOST_BODY || sam_journal_frame(journal->random, journal->end.number, journal->end.durable, body, len, &frame) != SAM_OK)
         return EFBIG;
-    struct iovec parts[] = {{frame.front, sizeof frame.front}, {(uint8_t *)body, len}, {frame.back, sizeof frame.back}};
-    int error = journal->is_held ? hold(&journal->held, parts, 3) : write_all(journal->file, parts, 3);
-    if (error != 0)
-        return error;
+    if ((journal->is_held && held->len + sizeof frame + len > MOST_HELD) || !has_room_in(held, sizeof frame + len))
+        return ENOMEM;
+    add_raw(held, frame.front, sizeof frame.front);
+    add_raw(held, body, len);
+    add_raw(held, frame.back, sizeof frame.back);
     journal->end.number++;
     journal->end.at += sizeof frame + len;
     return 0;
 }
 
-static void put_record(struct session *session, const uint8_t *body, size_t len)
+/* Puts the entries of a turn into a record, and counts those of the server. Returns whether there is memory for it: else they wait. */
+static bool put_turn(struct session *session, size_t *count)
 {
-    struct journal *journal = &session->stay->journal;
-    int error = takes_records(journal) ? write_record(journal, body, len) : 0;
+    struct journal *journal = &session->journal;
+    bool takes = takes_records(journal);
 
-    if (error != 0 && !journal->is_held) {
-        hold_journal(session, error);
-        error = write_record(journal, body, len);
-    }
+    if (takes && !has_room_in(&journal->held, sizeof(sam_record_frame) + journal->turn.len))
+        return false;
+    int error = takes ? add_record(journal, journal->turn.bytes, journal->turn.len) : 0;
+    *count += journal->in_turn;
+    drop_turn(journal);
     if (error != 0)
         end_journal(session, error);
+    return true;
 }
 
 bool writes_records(const struct journal *journal)
@@ -155,25 +170,16 @@ bool takes_records(const struct journal *journal)
     return journal->file >= 0 || journal->is_held;
 }
 
-/* Makes room in the next record. Returns whether there is memory for that: else the record lacks nothing yet. */
-static bool has_room_in_turn(struct journal *journal, size_t more)
-{
-    bool has_some = has_room(&journal->turn, more);
-
-    journal->turn.is_short &= has_some;
-    return has_some;
-}
-
 bool has_room_for_number(struct journal *journal)
 {
-    return !takes_records(journal) || has_room_in_turn(journal, ENTRY_HEAD + sizeof(uint64_t));
+    return !takes_records(journal) || has_room_in(&journal->turn, ENTRY_HEAD + sizeof(uint64_t));
 }
 
 void add_number_entry(struct session *session, enum entry kind, uint64_t number)
 {
-    struct body *turn = &session->stay->journal.turn;
+    struct body *turn = &session->journal.turn;
 
-    if (!takes_records(&session->stay->journal))
+    if (!takes_records(&session->journal))
         return;
     add_entry_head(turn, kind, sizeof number);
     add_number(turn, number);
@@ -183,9 +189,9 @@ void add_number_entry(struct session *session, enum entry kind, uint64_t number)
 
 void add_entry(struct session *session, enum entry kind, struct body *body)
 {
-    struct body *turn = &session->stay->journal.turn;
+    struct body *turn = &session->journal.turn;
 
-    if (takes_records(&session->stay->journal)) {
+    if (takes_records(&session->journal)) {
         if (kind == ENTRY_START)
             add_raw(turn, &(uint8_t){ENTRY_START}, 1);
         else
@@ -201,12 +207,12 @@ void add_entry(struct session *session, enum entry kind, struct body *body)
  * server. */
 static bool gather(struct session *session)
 {
-    struct journal *journal = &session->stay->journal;
+    struct journal *journal = &session->journal;
     struct body *turn = &journal->turn;
     size_t len;
 
     while (turn->len < MOST_IN_TURN && sam_server_record_len(session->server, &len) == SAM_OK) {
-        if (!has_room_in_turn(journal, ENTRY_HEAD + len))
+        if (!has_room_in(turn, ENTRY_HEAD + len))
             return false;
         if (sam_server_next_record(session->server, turn->bytes + turn->len + ENTRY_HEAD, len, &len) != SAM_OK)
             return false; /* can't be: there is room */
@@ -217,31 +223,36 @@ static bool gather(struct session *session)
     return true;
 }
 
+/* Adds an empty record, which says how much is on the disk. It may be missing after a power cut. */
+static void mark_synced(struct session *session)
+{
+    struct journal *journal = &session->journal;
+    int error = add_record(journal, NULL, 0) == 0 ? write_held(journal) : 0;
+
+    if (error != 0)
+        hold_journal(session, error);
+}
+
 void sync_journal(struct session *session)
 {
-    struct journal *journal = &session->stay->journal;
+    int error = writes_records(&session->journal) ? flush(&session->journal) : 0;
 
-    if (!writes_records(journal))
-        return;
-    if (fdatasync(journal->file) != 0) {
-        hold_journal(session, errno);
-        return;
-    }
-    journal->end.durable = journal->end.at;
-    put_record(session, NULL, 0); /* that may be missing after a power cut */
+    if (error != 0)
+        hold_journal(session, error);
+    else if (writes_records(&session->journal))
+        mark_synced(session);
 }
 
 void settle(struct session *session)
 {
-    struct journal *journal = &session->stay->journal;
+    struct journal *journal = &session->journal;
     size_t count = 0;
     bool has_some = false;
 
-    while (!session->stay->is_done && gather(session) && (journal->turn.len > 0 || journal->in_turn > 0)) {
-        count += journal->in_turn;
-        put_record(session, journal->turn.bytes, journal->turn.len);
-        drop_turn(journal);
+    while (!session->is_done && gather(session) && (journal->turn.len > 0 || journal->in_turn > 0) && put_turn(session, &count)) {
         has_some = true;
+        if (journal->held.len > MOST_UNSYNCED)
+            sync_journal(session);
     }
     if (!has_some)
         return;
@@ -251,7 +262,7 @@ void settle(struct session *session)
 
 bool is_settled(struct session *session)
 {
-    const struct journal *journal = &session->stay->journal;
+    const struct journal *journal = &session->journal;
     size_t len;
 
     return journal->turn.len == 0 && journal->in_turn == 0 && sam_server_record_len(session->server, &len) != SAM_OK;
@@ -259,32 +270,57 @@ bool is_settled(struct session *session)
 
 /* ---- The file ---- */
 
-void make_journal(struct session *session, const char *name)
+void make_journal(struct session *session)
 {
-    struct journal *journal = &session->stay->journal;
+    struct journal *journal = &session->journal;
     uint8_t head[SAM_JOURNAL_HEAD_BYTES];
-    struct iovec part = {head, sizeof head}, again = part;
 
     *journal = (struct journal){.file = -1, .end = first_record()};
     if (getrandom(&journal->random, sizeof journal->random, 0) != sizeof journal->random ||
-        sam_journal_head(journal->random, head) != SAM_OK) {
+        sam_journal_head(journal->random, head) != SAM_OK || !has_room_in(&journal->held, sizeof head)) {
         end_journal(session, errno);
         return;
     }
-    int error = make_in_home(&session->stay->home, name, O_RDWR | O_TRUNC | O_APPEND, &journal->file);
-    if (error == 0 && (error = write_all(journal->file, &part, 1)) != 0) {
-        close(journal->file);
-        journal->file = -1;
-    }
-    if (error != 0) {
+    add_raw(&journal->held, head, sizeof head);
+    int error = make_in_home(&session->home, NEW_JOURNAL, O_RDWR | O_TRUNC | O_APPEND, &journal->file);
+    if (error == 0)
+        error = write_held(journal);
+    if (error != 0)
         hold_journal(session, error);
-        (void)hold(&journal->held, &again, 1);
-    }
+}
+
+int place_journal(struct session *session)
+{
+    static const char *const names[] = {[NEW] = NEW_JOURNAL, [UNFINISHED] = UNFINISHED_JOURNAL};
+    struct journal *journal = &session->journal;
+    const struct home *home = &session->home;
+
+    if (journal->state != IN_PLACE && renameat(home->folder, names[journal->state], home->folder, JOURNAL) != 0)
+        return errno;
+    journal->state = IN_PLACE;
+    int error = sync_home(home);
+    if (error == 0)
+        (void)unlinkat(home->folder, UNFINISHED_JOURNAL, 0);
+    return error;
+}
+
+bool has_whole_journal(const struct home *home)
+{
+    return faccessat(home->folder, JOURNAL, F_OK, 0) == 0 || errno != ENOENT;
 }
 
 bool has_journal(const struct home *home)
 {
-    return faccessat(home->folder, JOURNAL, F_OK, 0) == 0 || errno != ENOENT;
+    return has_whole_journal(home) || faccessat(home->folder, UNFINISHED_JOURNAL, F_OK, 0) == 0 || errno != ENOENT;
+}
+
+/* Opens the journal; where it isn't there, the one that could not be written to its end. */
+static int open_in(const struct home *home, int flags, bool *is_unfinished)
+{
+    int file = openat(home->folder, JOURNAL, flags | O_NOFOLLOW | O_CLOEXEC);
+
+    *is_unfinished = file < 0 && errno == ENOENT;
+    return *is_unfinished ? openat(home->folder, UNFINISHED_JOURNAL, flags | O_NOFOLLOW | O_CLOEXEC) : file;
 }
 
 int map_records(int file, struct text *all)
@@ -314,18 +350,18 @@ static sam_status read_head(const struct text *all, uint64_t *random)
     return sam_journal_read(all->bytes, all->len < SAM_JOURNAL_HEAD_BYTES ? 0 : SAM_JOURNAL_HEAD_BYTES, random, &count, &end);
 }
 
-int open_journal(struct stay *stay, struct text *all, sam_status *head)
+int open_journal(struct session *session, struct text *all, sam_status *head, bool *is_unfinished)
 {
-    int file = openat(stay->home.folder, JOURNAL, O_RDWR | O_APPEND | O_NOFOLLOW | O_CLOEXEC);
+    int file = open_in(&session->home, O_RDWR | O_APPEND, is_unfinished);
 
     *all = (struct text){0};
     *head = SAM_JOURNAL_SHORT;
     if (file < 0)
         return errno;
-    stay->journal = (struct journal){.file = file};
+    session->journal = (struct journal){.file = file, .state = *is_unfinished ? UNFINISHED : IN_PLACE};
     int error = map_records(file, all);
     if (error == 0)
-        *head = read_head(all, &stay->journal.random);
+        *head = read_head(all, &session->journal.random);
     return error;
 }
 
@@ -356,20 +392,11 @@ bool is_journal_damaged(const struct text *all, size_t end)
     return all->len - end > MOST_BEHIND || sam_journal_read(all->bytes, all->len, &random, &count, &end) == SAM_JOURNAL_DAMAGED;
 }
 
-int cut_journal(struct stay *stay, const struct text *all, size_t len)
+int cut_journal(struct session *session, size_t len)
 {
-    struct iovec torn = {all->bytes + len, all->len - len};
-    int file, error = make_in_home(&stay->home, TORN_JOURNAL, O_WRONLY | O_TRUNC, &file);
+    int file = session->journal.file;
 
-    if (error != 0)
-        return error;
-    error = write_all(file, &torn, 1);
-    if (error == 0 && fsync(file) != 0)
-        error = errno;
-    close(file);
-    if (error == 0 && (ftruncate(stay->journal.file, (off_t)len) != 0 || fdatasync(stay->journal.file) != 0))
-        error = errno;
-    return error;
+    return ftruncate(file, (off_t)len) == 0 && fdatasync(file) == 0 ? 0 : errno;
 }
 
 void close_records(struct text *all)
@@ -379,86 +406,38 @@ void close_records(struct text *all)
     *all = (struct text){0};
 }
 
-/* ---- Begun anew ---- */
+/* ---- Written again ---- */
 
-/* Copies so many bytes of the front of a file. */
-static int copy_front(int from, int into, uint64_t len)
+bool complete_journal(struct session *session)
 {
-    uint8_t bytes[PIECE];
-
-    for (uint64_t at = 0; at < len;) {
-        ssize_t count = pread(from, bytes, len - at < PIECE ? (size_t)(len - at) : PIECE, (off_t)at);
-        if (count <= 0)
-            return count == 0 ? EIO : errno;
-        struct iovec part = {bytes, (size_t)count};
-        int error = write_all(into, &part, 1);
-        if (error != 0)
-            return error;
-        at += (uint64_t)count;
-    }
-    return 0;
-}
-
-/* Whether a file has just the records of a journal, whole. */
-static bool has_all_records(const struct journal *journal, int file)
-{
-    struct text all;
-    uint64_t random, count;
-    size_t end;
-
-    bool is_whole = map_records(file, &all) == 0 && all.len == journal->end.at &&
-                    sam_journal_read(all.bytes, all.len, &random, &count, &end) == SAM_OK && end == all.len && count == journal->end.number;
-    close_records(&all);
-    return is_whole;
-}
-
-/* Writes all records of a journal that is held into a file, and has them be on the disk. EBADMSG where the old file lacks some: a sync that
- * failed may have dropped them. */
-static int write_anew(const struct journal *journal, int file)
-{
-    struct iovec held = {journal->held.bytes, journal->held.len};
-    int error = copy_front(journal->file, file, journal->end.at - journal->held.len);
-
-    if (error == 0)
-        error = write_all(file, &held, 1);
-    if (error == 0 && fdatasync(file) != 0)
-        error = errno;
-    return error == 0 && !has_all_records(journal, file) ? EBADMSG : error;
-}
-
-bool begin_journal_anew(struct session *session)
-{
-    struct journal *journal = &session->stay->journal;
-    const struct home *home = &session->stay->home;
-    int file;
+    struct journal *journal = &session->journal;
 
     if (!journal->is_held)
         return writes_records(journal);
     journal->pause = 2 * journal->pause < LONGEST_PAUSE ? 2 * journal->pause : LONGEST_PAUSE;
     journal->due = now() + journal->pause;
-    if (make_in_home(home, NEW_JOURNAL, O_RDWR | O_TRUNC | O_APPEND, &file) != 0)
-        return false;
-    int error = write_anew(journal, file);
-    if (error != 0 || renameat(home->folder, NEW_JOURNAL, home->folder, JOURNAL) != 0) {
-        close(file);
-        (void)unlinkat(home->folder, NEW_JOURNAL, 0);
-        if (error == EBADMSG)
-            close_journal(journal);
+    int error = 0;
+    if (journal->file < 0)
+        error = make_in_home(&session->home, NEW_JOURNAL, O_RDWR | O_TRUNC | O_APPEND, &journal->file);
+    else if (ftruncate(journal->file, (off_t)journal->end.durable) != 0)
+        error = errno;
+    journal->written = 0;
+    if (error == 0)
+        error = flush(journal);
+    if (error == 0)
+        error = place_journal(session);
+    if (error != 0) {
+        lay_aside(session); /* it may have its name, and lack steps as soon as more are held */
         return false;
     }
-    sync_home(home);
-    struct journal anew = *journal;
-    journal->turn = (struct body){0};
-    close_journal(journal);
-    *journal = (struct journal){.file = file, .random = anew.random, .end = anew.end, .turn = anew.turn, .in_turn = anew.in_turn};
-    journal->end.durable = journal->end.at;
-    put_record(session, NULL, 0); /* that may be missing after a power cut */
+    journal->is_held = false;
+    mark_synced(session);
     return writes_records(journal);
 }
 
 int64_t mending_is_due_in(const struct session *session)
 {
-    const struct journal *journal = &session->stay->journal;
+    const struct journal *journal = &session->journal;
     int64_t left = journal->due - now();
 
     if (journal->lost != 0)
@@ -468,17 +447,25 @@ int64_t mending_is_due_in(const struct session *session)
 
 void mend_journal(struct session *session)
 {
-    int error = session->stay->journal.lost;
+    int error = session->journal.lost;
 
-    session->stay->journal.lost = 0;
+    session->journal.lost = 0;
     if (error != 0)
         tell(&(struct event){.kind = SAM_NOTE_NO_JOURNAL, .code = code_of(error)},
              "the journal can't be written: %s; if samhost ends unasked, the session ends with it", cause(error));
-    if (mending_is_due_in(session) == 0 && begin_journal_anew(session))
+    if (mending_is_due_in(session) == 0 && complete_journal(session))
         say("the journal is written again");
 }
 
 /* ---- Left alone ---- */
+
+void renew_time(const struct session *session)
+{
+    struct stat status;
+
+    if (fstat(session->journal.file, &status) == 0 && time(NULL) - status.st_mtime > session->longest_alone / 1000 / RENEWALS)
+        (void)futimens(session->journal.file, NULL);
+}
 
 bool is_left_alone(const struct home *home)
 {
@@ -488,14 +475,14 @@ bool is_left_alone(const struct home *home)
     struct record_place first = first_record();
     struct start start = {.longest_alone = -1};
     uint64_t random;
-    int file = openat(home->folder, JOURNAL, O_RDONLY | O_NOFOLLOW | O_CLOEXEC);
+    bool is_unfinished;
+    int file = open_in(home, O_RDONLY, &is_unfinished);
 
     bool is_read = file >= 0 && fstat(file, &status) == 0 && map_records(file, &all) == 0 && read_head(&all, &random) == SAM_OK;
     bool is_known =
         is_read && next_record(&all, random, &first, &record) && take_byte(&record) == ENTRY_START && take_start(&record, &start);
     free(start.folder);
     close_records(&all);
-    if (file >= 0)
-        close(file);
+    close_file(&file);
     return is_known && !record.is_wrong && start.longest_alone >= 0 && time(NULL) - status.st_mtime > start.longest_alone / 1000;
 }

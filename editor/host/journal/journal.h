@@ -11,7 +11,6 @@
 
 struct home;
 struct session;
-struct stay;
 struct text;
 
 /* The place of a record in a journal, its number, and how much was on the disk when the one before it was made. */
@@ -21,54 +20,62 @@ struct record_place {
 };
 
 struct journal {
-    int file;                /* -1 where there is none */
-    uint64_t random;         /* of the file */
-    struct record_place end; /* where the next record is added; how much is on the disk now */
-    uint64_t damaged_at;     /* where its whole records end before what was on the disk */
-    struct body turn;        /* the entries of the next record */
-    size_t in_turn;          /* how many records of the server are among them */
-    bool is_held;            /* the file can't be written: records wait in memory until another one takes all of them */
-    struct body held;        /* these records, which stand behind those of the file; before them the head, where there is no file */
-    int64_t due, pause;      /* when another file is tried, and in how many milliseconds once more if that can't be */
-    int lost;                /* why it can't be written, which is still to be told; else 0 */
+    int file;                                 /* -1 where there is none */
+    enum { NEW, IN_PLACE, UNFINISHED } state; /* which name it has */
+    uint64_t random;                          /* of the file */
+    struct record_place end;                  /* where the next record is added; how much is on the disk now */
+    struct body turn;                         /* the entries of the next record */
+    size_t in_turn;                           /* how many records of the server are among them */
+    struct body held;                         /* what the disk may lack: all behind what is durable */
+    size_t written;                           /* how much of that the file has */
+    bool is_held;                             /* the file can't be written, so that waits there */
+    int64_t due, pause;                       /* when that is tried again, and in how many milliseconds once more if it can't be */
+    int lost;                                 /* why it can't be written, which is still to be told; else 0 */
 };
 
-/* Makes a journal of this name in the folder of a session, in the place of one that is there. Where that can't be it is held. */
-void make_journal(struct session *session, const char *name);
+/* Makes a new journal in the folder of a session, beside the one that is there. Where that can't be it is held. */
+void make_journal(struct session *session);
 
-/* The file can't be written any more, so it goes: one that lacks a step is of no use. It stays where the session is kept. Records are held
- * from now on. */
+/* Gives the journal, which is on the disk, its name, in the place of one that is there, and has that be on the disk. */
+int place_journal(struct session *session);
+
+/* The file can't be written any more, so it gets another name: no session goes on from one that lacks a step. It keeps its name where the
+ * session is kept. Records are held from now on. */
 void hold_journal(struct session *session, int error);
 
 /* In how many milliseconds mend_journal is to be called; -1 where it isn't. */
 int64_t mending_is_due_in(const struct session *session);
 
-/* Tells of a journal that can't be written. Where it is time, begins it anew: another file gets all that the old one had, and what is
- * held. */
+/* Tells of a journal that can't be written. Where it is time, tries again. */
 void mend_journal(struct session *session);
 
-/* Begins a journal anew that is held. Returns whether there is one then. */
-bool begin_journal_anew(struct session *session);
+/* Writes what a journal lacks that is held. Returns whether there is one then. */
+bool complete_journal(struct session *session);
 
 /* Closes its files, and forgets what is held. */
 void close_journal(struct journal *journal);
 
-/* Whether the folder of a session has a journal. Where that can't be seen it counts as there: who opens it finds why, and nobody writes
- * another in its place. */
+/* Whether the folder of a session has a journal; and whether it has one from which another samhost can go on. Where that can't be seen it
+ * counts as there: who opens it finds why, and nobody writes another in its place. */
 bool has_journal(const struct home *home);
+bool has_whole_journal(const struct home *home);
 
 /* Has all that an open journal has be readable, until close_records. Of one that lacks its head that is nothing. */
 int map_records(int file, struct text *all);
 void close_records(struct text *all);
 
-/* Opens the journal that is there, and hands out the same of it, and what the library says of its head. */
-int open_journal(struct stay *stay, struct text *all, sam_status *head);
+/* Opens the journal that is there, and hands out the same of it, what the library says of its head, and whether it could not be written to
+ * its end. */
+int open_journal(struct session *session, struct text *all, sam_status *head, bool *is_unfinished);
 
-/* Whether a session whose samhost is gone has been alone for longer than it may be, as its journal says. */
+/* While a terminal is there: has the time of the journal say so, by which a session whose samhost is gone counts as alone since then. */
+void renew_time(const struct session *session);
+
+/* Whether such a session has been alone for longer than it may be, as its journal says. */
 bool is_left_alone(const struct home *home);
 
-/* Cuts the journal to its whole records, and has the cut be on the disk. What is cut off stays beside it. */
-int cut_journal(struct stay *stay, const struct text *all, size_t len);
+/* Cuts the journal to its whole records, and has the cut be on the disk. */
+int cut_journal(struct session *session, size_t len);
 
 /* Whether records are written; and whether they are, or are held. */
 bool writes_records(const struct journal *journal);
@@ -85,8 +92,9 @@ bool has_room_for_number(struct journal *journal);
 
 enum { MOST_IN_TURN = 1 << 20 }; /* bytes of entries behind which a record ends */
 
-/* Has all that the server took, and what is known beside it since, be in the journal, and on the disk; and the server hear so. A kill leaves
- * all of it or nothing, unless it is more than MOST_IN_TURN. What is done for the server waits until that it is done is a record, too. */
+/* Has all that the server took, and what is known beside it since, be in the journal, and on the disk; and the server hear so. A kill
+ * leaves all of it or nothing, unless it is more than MOST_IN_TURN. What is done for the server waits until that it is done is a record,
+ * too. */
 void settle(struct session *session);
 
 /* Whether it is so: no memory was out. */

@@ -1,113 +1,104 @@
 /* journal_records.c: what a journal has of a session beside the records of its server. */
 #define _GNU_SOURCE
 #include <errno.h>
-#include <stdio.h>
 #include <stdlib.h>
 #include <string.h>
-#include <unistd.h>
 
 #include "journal/journal_records.h"
-#include "disk/autosave.h"
-#include "disk/cut_backup.h"
-#include "disk/file_writer.h"
-#include "disk/paths.h"
-#include "journal/journal.h"
-#include "limits.h"
-#include "session/document.h"
-#include "session/messages.h"
-#include "session/persistent_session.h"
 #include "session/session.h"
-#include "sulgrevad.h"
 
 /* ---- A document ---- */
 
-static void add_content(struct body *body, const struct content *content)
+/* Where fields go: into a body that is made, or out of a record that is read. So both have one form. */
+struct pass {
+    struct body *into;
+    struct record *from; /* NULL where a body is made */
+};
+
+static uint64_t pass_number(struct pass *pass, uint64_t number)
 {
-    add_number(body, content->kind);
-    add_number(body, content->hash);
-    add_number(body, content->len);
+    if (pass->from != NULL)
+        return take_number(pass->from);
+    add_number(pass->into, number);
+    return number;
 }
 
-static struct content take_content(struct record *record)
+static void pass_words(struct pass *pass, char **words)
 {
-    uint64_t kind = take_number(record);
-    struct content content = {.kind = kind <= NOT_SURE ? kind : NOT_THERE};
+    size_t len;
 
-    content.hash = take_number(record);
-    content.len = take_number(record);
-    return content;
+    if (pass->from == NULL) {
+        add_words(pass->into, *words, *words == NULL ? 0 : strlen(*words));
+        return;
+    }
+    free(*words);
+    *words = take_words(pass->from, &len);
 }
 
-static void add_copy(struct body *body, const struct copy *copy)
+static void pass_text(struct pass *pass, struct text *text)
 {
-    add_words(body, copy->path);
-    add_number(body, copy->device);
-    add_number(body, copy->inode);
-    add_number(body, (uint64_t)copy->written.tv_sec);
-    add_number(body, (uint64_t)copy->written.tv_nsec);
-    add_content(body, &copy->content);
+    if (pass->from == NULL)
+        add_words(pass->into, text->bytes, text->len);
+    else
+        text->bytes = (uint8_t *)take_words(pass->from, &text->len);
 }
 
-void take_copy(struct record *record, struct copy *copy)
+static void pass_content(struct pass *pass, struct content *content)
 {
-    free(copy->path);
-    copy->path = take_words(record);
-    copy->device = (dev_t)take_number(record);
-    copy->inode = (ino_t)take_number(record);
-    copy->written.tv_sec = (time_t)take_number(record);
-    copy->written.tv_nsec = (long)take_number(record);
-    copy->content = take_content(record);
+    uint64_t kind = pass_number(pass, content->kind);
+
+    content->kind = kind <= NOT_SURE ? kind : NOT_THERE;
+    content->hash = pass_number(pass, content->hash);
+    content->len = pass_number(pass, content->len);
 }
 
-static void add_document(struct body *body, uint16_t tag, const struct document *document)
+static void pass_copy(struct pass *pass, struct copy *copy)
+{
+    pass_words(pass, &copy->path);
+    copy->device = (dev_t)pass_number(pass, copy->device);
+    copy->inode = (ino_t)pass_number(pass, copy->inode);
+    copy->written.tv_sec = (time_t)pass_number(pass, (uint64_t)copy->written.tv_sec);
+    copy->written.tv_nsec = (long)pass_number(pass, (uint64_t)copy->written.tv_nsec);
+    pass_content(pass, &copy->content);
+}
+
+/* What is known of files, in its order. */
+static void pass_known(struct pass *pass, struct known **at)
 {
     uint64_t count = 0;
 
-    add_number(body, tag);
-    add_words(body, document->path);
-    add_words(body, document->shown);
-    add_number(body, document->is_unmarked);
-    add_number(body, document->is_taken);
-    add_number(body, document->is_reported);
-    add_number(body, document->purpose);
-    add_copy(body, &document->aside);
-    for (const struct known *known = document->known; known != NULL; known = known->next)
+    for (const struct known *known = *at; known != NULL; known = known->next)
         count++;
-    add_number(body, count);
-    for (const struct known *known = document->known; known != NULL; known = known->next) {
-        add_words(body, known->path);
-        add_content(body, &known->content);
-        add_number(body, known->disk);
-        add_number(body, known->is_theirs);
-    }
-}
-
-/* Adds what is known of files behind what a document has, so that the order stays. */
-static void take_known(struct record *record, struct document *document)
-{
-    struct known **last = &document->known;
-
-    for (uint64_t left = take_number(record); left > 0 && !record->is_wrong && !record->is_short; left--) {
-        struct known *known = calloc(1, sizeof *known);
-        record->is_short |= known == NULL;
-        if (known == NULL)
+    for (uint64_t left = pass_number(pass, count); left > 0; left--, at = &(*at)->next) {
+        if (pass->from != NULL && (pass->from->is_wrong || pass->from->is_short))
             return;
-        known->path = take_words(record);
-        known->content = take_content(record);
-        known->disk = (dev_t)take_number(record);
-        known->is_theirs = take_number(record) != 0;
-        *last = known;
-        last = &known->next;
-        record->is_wrong |= known->path == NULL && !record->is_short;
+        if (pass->from != NULL && (*at = calloc(1, sizeof **at)) == NULL) {
+            pass->from->is_short = true;
+            return;
+        }
+        pass_words(pass, &(*at)->path);
+        pass_content(pass, &(*at)->content);
+        (*at)->disk = (dev_t)pass_number(pass, (*at)->disk);
+        (*at)->is_theirs = pass_number(pass, (*at)->is_theirs) != 0;
+        if (pass->from != NULL)
+            pass->from->is_wrong |= (*at)->path == NULL && !pass->from->is_short;
     }
 }
 
-static enum purpose take_purpose(struct record *record)
+static void pass_document(struct pass *pass, struct document *document)
 {
-    uint64_t purpose = take_number(record);
-
-    record->is_wrong |= purpose > READ_ANEW;
-    return (enum purpose)purpose;
+    pass_words(pass, &document->path);
+    pass_words(pass, &document->shown);
+    document->is_unmarked = pass_number(pass, document->is_unmarked) != 0;
+    document->is_taken = pass_number(pass, document->is_taken) != 0;
+    document->is_reported = pass_number(pass, document->is_reported) != 0;
+    document->purpose = (enum purpose)pass_number(pass, document->purpose);
+    pass_copy(pass, &document->aside);
+    pass_text(pass, &document->held);
+    pass_known(pass, &document->known);
+    uint64_t request = pass_number(pass, document->answer == NULL ? 0 : document->answer->request);
+    if (pass->from != NULL && request != 0)
+        pass->from->is_short |= !expect_write(document, (uint32_t)request);
 }
 
 void take_document(struct session *session, struct record *record)
@@ -115,18 +106,12 @@ void take_document(struct session *session, struct record *record)
     uint64_t tag = take_number(record);
     struct document document = {0};
 
+    pass_document(&(struct pass){.from = record}, &document);
+    record->is_wrong |= tag >= ALL_TAGS || document.purpose > READ_ANEW;
     if (tag >= ALL_TAGS) {
-        record->is_wrong = true;
+        free_document(&document);
         return;
     }
-    document.path = take_words(record);
-    document.shown = take_words(record);
-    document.is_unmarked = take_number(record) != 0;
-    document.is_taken = take_number(record) != 0;
-    document.is_reported = take_number(record) != 0;
-    document.purpose = take_purpose(record);
-    take_copy(record, &document.aside);
-    take_known(record, &document);
     free_document(&session->documents[tag]);
     session->documents[tag] = document;
 }
@@ -137,75 +122,35 @@ void record_document(struct session *session, uint16_t tag)
 {
     struct body body = {0};
 
-    add_document(&body, tag, &session->documents[tag]);
+    add_number(&body, tag);
+    pass_document(&(struct pass){.into = &body}, &session->documents[tag]);
     session->documents[tag].aside.is_unnoted = false;
     add_entry(session, ENTRY_KNOWN, &body);
 }
 
 void record_copies(struct session *session)
 {
-    struct copy *cut = &session->cut.aside;
-    size_t tags = count_tags(session);
-
-    for (size_t tag = 1; tag < tags; tag++) {
+    for (size_t tag = THE_CUT, tags = count_tags(session); tag < tags; tag++) {
         if (session->documents[tag].aside.is_unnoted)
             record_document(session, (uint16_t)tag);
     }
-    if (cut->is_unnoted) {
-        struct body body = {0};
-        add_copy(&body, cut);
-        cut->is_unnoted = false;
-        add_entry(session, ENTRY_CUT, &body);
-    }
 }
 
-void record_wanted(struct session *session, uint16_t tag, uint32_t request)
+/* Records how a session began, and its files. The form stands first, so that it is found in a journal of each form; those up to 4 have the
+ * number 1 there. */
+static void record_start(struct session *session)
 {
-    add_number_entry(session, ENTRY_WANTED, (uint64_t)tag << 32 | request);
-}
-
-void record_answered(struct session *session, uint16_t tag)
-{
-    add_number_entry(session, ENTRY_ANSWERED, tag);
-}
-
-void record_held(struct session *session, const struct closed *closed)
-{
-    struct body body = {0};
-
-    add_words(&body, closed->name);
-    add_data(&body, closed->text.bytes, closed->text.len);
-    add_entry(session, ENTRY_HELD, &body);
-}
-
-void record_freed(struct session *session, size_t place)
-{
-    add_number_entry(session, ENTRY_FREED, place);
-}
-
-void record_ended(struct session *session, int status)
-{
-    add_number_entry(session, ENTRY_ENDED, (uint64_t)status);
-}
-
-/* The form stands first, so that it is found in a journal of each form; those up to 4 have the number 1 there. */
-void record_start(struct session *session)
-{
-    struct stay *stay = session->stay;
-    size_t tags = count_tags(session);
     struct body body = {.is_short = session->folder == NULL};
 
     add_number(&body, (uint64_t)RECORDS_FORM << 32 | sam_library_version());
-    add_words(&body, session->folder);
+    add_words(&body, session->folder, session->folder == NULL ? 0 : strlen(session->folder));
     add_number(&body, session->mode_of_new_files);
-    add_number(&body, (uint64_t)stay->longest_alone);
-    add_raw(&body, stay->id, SAM_LINK_ID_BYTES);
+    add_number(&body, (uint64_t)session->longest_alone);
+    add_raw(&body, session->id, SAM_LINK_ID_BYTES);
     add_entry(session, ENTRY_START, &body);
     settle(session);
-    for (size_t tag = 1; tag < tags; tag++)
+    for (size_t tag = 1, tags = count_tags(session); tag < tags; tag++)
         record_document(session, (uint16_t)tag);
-    for (const struct closed *closed = session->closed; closed != NULL; closed = closed->next)
-        record_held(session, closed);
     add_entry(session, ENTRY_BEGUN, &(struct body){0});
     settle(session);
 }
@@ -213,11 +158,12 @@ void record_start(struct session *session)
 bool take_start(struct record *record, struct start *start)
 {
     uint64_t written_by = take_number(record);
+    size_t len;
 
     *start = (struct start){.is_other = (uint32_t)written_by != sam_library_version()};
     if (written_by >> 32 != RECORDS_FORM)
         return false;
-    start->folder = take_words(record);
+    start->folder = take_words(record, &len);
     start->mode_of_new_files = (mode_t)take_number(record);
     start->longest_alone = (int64_t)take_number(record);
     return true;
@@ -225,23 +171,23 @@ bool take_start(struct record *record, struct start *start)
 
 void begin_fresh_journal(struct session *session)
 {
-    const struct home *home = &session->stay->home;
-    struct journal *journal = &session->stay->journal;
+    struct journal *journal = &session->journal;
     bool was_held = journal->is_held;
     int lost = journal->lost, tries = 0;
 
     close_journal(journal);
-    make_journal(session, NEW_JOURNAL);
+    make_journal(session);
     put_messages(session);
     record_start(session);
     while (!is_settled(session) && is_tried_again(ENOMEM, &tries))
         settle(session);
     int error = !is_settled(session) ? ENOMEM : 0;
-    if (error == 0 && writes_records(journal) && renameat(home->folder, NEW_JOURNAL, home->folder, JOURNAL) != 0)
-        error = errno;
+    if (error == 0 && writes_records(journal))
+        error = place_journal(session);
     if (error != 0 && writes_records(journal))
         hold_journal(session, error);
     if (was_held && journal->is_held)
         journal->lost = lost; /* it was told, if it is 0 */
-    sync_home(home);
+    else if (was_held && lost == 0)
+        say("the journal is written again");
 }

@@ -3,19 +3,15 @@
 #define SAMHOST_JOURNAL_JOURNAL_RECORDS_H
 
 #include <stdbool.h>
-#include <stddef.h>
 #include <stdint.h>
 #include <sys/types.h>
 
-#include "journal/journal.h"
-
-struct closed;
-struct copy;
+struct record;
 struct session;
 
 /* The form of the records. It grows with each change of what they say, so that no samhost takes up a session whose records it would read
  * otherwise: tests/host/host_checks/journals.py has a sum of the code that decides. */
-#define RECORDS_FORM 6
+#define RECORDS_FORM 8
 
 /* How a session began. */
 struct start {
@@ -25,14 +21,11 @@ struct start {
     int64_t longest_alone;
 };
 
-/* Records how a session began, and its files. */
-void record_start(struct session *session);
-
 /* Takes how it began; the session's id follows. Returns whether the records are of this form: else nothing more is known of them. */
 bool take_start(struct record *record, struct start *start);
 
-/* Puts a journal of a session that has a new server in the place of the one that is there. Where that can't be it is held, and none is
- * there: a journal that nobody writes would bring an older text back. */
+/* Puts a journal of a session that has a new server in the place of the one that is there. Where that can't be it is held, and no session
+ * goes on from the older one: a journal that nobody writes would bring an older text back. */
 void begin_fresh_journal(struct session *session);
 
 /* Records what is known of a file. */
@@ -41,19 +34,7 @@ void record_document(struct session *session, uint16_t tag);
 /* Records the copies of texts that are new. */
 void record_copies(struct session *session);
 
-/* Records that a write of a file is to answer a request, and that it has. */
-void record_wanted(struct session *session, uint16_t tag, uint32_t request);
-void record_answered(struct session *session, uint16_t tag);
-
-/* Records the text of a closed file, which could not be saved; and that the one at this place of the list is saved. */
-void record_held(struct session *session, const struct closed *closed);
-void record_freed(struct session *session, size_t place);
-
-/* Records that the last message is said. */
-void record_ended(struct session *session, int status);
-
-/* Takes what a record says of a document, and of a copy. */
+/* Takes what a record says of a document. */
 void take_document(struct session *session, struct record *record);
-void take_copy(struct record *record, struct copy *copy);
 
 #endif

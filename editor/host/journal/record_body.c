@@ -40,17 +40,13 @@ void add_raw(struct body *body, const void *bytes, size_t len)
     }
 }
 
-void add_data(struct body *body, const void *bytes, size_t len)
-{
-    add_number(body, len);
-    add_raw(body, bytes, len);
-}
-
-void add_words(struct body *body, const char *words)
+void add_words(struct body *body, const void *words, size_t len)
 {
     add_number(body, words != NULL);
-    if (words != NULL)
-        add_data(body, words, strlen(words));
+    if (words != NULL) {
+        add_number(body, len);
+        add_raw(body, words, len);
+    }
 }
 
 void add_entry_head(struct body *body, enum entry kind, size_t len)
@@ -94,16 +90,16 @@ const uint8_t *take_data(struct record *record, size_t *len)
     return record->body - wanted;
 }
 
-char *take_words(struct record *record)
+char *take_words(struct record *record, size_t *len)
 {
-    size_t len = 0;
-    const uint8_t *bytes = take_number(record) != 0 ? take_data(record, &len) : NULL;
-    char *words = bytes == NULL ? NULL : malloc(len + 1);
+    *len = 0;
+    const uint8_t *bytes = take_number(record) != 0 ? take_data(record, len) : NULL;
+    char *words = bytes == NULL ? NULL : malloc(*len + 1);
 
     record->is_short |= bytes != NULL && words == NULL;
     if (words != NULL) {
-        memcpy(words, bytes, len);
-        words[len] = '\0';
+        memcpy(words, bytes, *len);
+        words[*len] = '\0';
     }
     return words;
 }

@@ -12,12 +12,7 @@ enum entry {
     ENTRY_START = 1,   /* the session: its folder, what the words said, and the id of its server. It stands alone, without a length */
     ENTRY_SERVER = 32, /* a record of the server */
     ENTRY_BEGUN,       /* all of the first ones stand before this */
-    ENTRY_KNOWN,       /* what is known of a file */
-    ENTRY_CUT,         /* the copy of what was cut last */
-    ENTRY_WANTED,      /* a write of a file is to answer a request */
-    ENTRY_ANSWERED,    /* the oldest one of a file is answered */
-    ENTRY_HELD,        /* the text of a closed file, which could not be saved */
-    ENTRY_FREED,       /* the one at this place among these is saved */
+    ENTRY_KNOWN,       /* what is known of a file, or of what was cut last */
     ENTRY_ENDED        /* the last message is said; the exit status */
 };
 
@@ -40,15 +35,14 @@ struct record {
 /* Makes room in a body for so many bytes more; where there is no memory it is short. */
 bool has_room(struct body *body, size_t more);
 
-/* What a body has, in order. Words may be NULL; they are taken into memory of the caller's. */
+/* What a body has, in order. Words may be NULL; they are taken into memory of the caller's, with a zero behind them. */
 void add_number(struct body *body, uint64_t number);
 void add_raw(struct body *body, const void *bytes, size_t len);
-void add_data(struct body *body, const void *bytes, size_t len);
-void add_words(struct body *body, const char *words);
+void add_words(struct body *body, const void *words, size_t len);
 void add_entry_head(struct body *body, enum entry kind, size_t len);
 uint64_t take_number(struct record *record);
 uint8_t take_byte(struct record *record);
 const uint8_t *take_data(struct record *record, size_t *len);
-char *take_words(struct record *record);
+char *take_words(struct record *record, size_t *len);
 
 #endif

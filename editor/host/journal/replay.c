@@ -12,18 +12,9 @@
 #include <unistd.h>
 
 #include "journal/replay.h"
-#include "disk/autosave.h"
 #include "disk/errors.h"
-#include "journal/journal.h"
 #include "journal/journal_records.h"
-#include "limits.h"
-#include "log.h"
-#include "net/handshake.h"
-#include "session/document.h"
-#include "session/messages.h"
-#include "session/persistent_session.h"
 #include "session/session.h"
-#include "sulgrevad.h"
 
 /* A session that is being made again. */
 struct replay {
@@ -33,7 +24,8 @@ struct replay {
     bool is_again;      /* all else is known */
     bool has_begun;     /* all of its first files are there */
     bool is_other;      /* another version of the library has written it */
-    bool is_damaged;    /* what was done behind its end is not known */
+    bool is_unfinished; /* it could not be written to its end; as with one that is damaged, what was done behind that is not known */
+    bool is_damaged;
     enum replay_fault fault;
 };
 
@@ -42,17 +34,17 @@ struct replay {
 /* Begins with a server of this id, which is zeros before a terminal has come. */
 static void begin_server(struct replay *replay, struct record *record)
 {
-    struct stay *stay = replay->session->stay;
+    struct session *session = replay->session;
 
     record->is_wrong |= record->len < SAM_LINK_ID_BYTES;
     if (record->is_wrong)
         return;
-    memcpy(stay->id, record->body, SAM_LINK_ID_BYTES);
+    memcpy(session->id, record->body, SAM_LINK_ID_BYTES);
     record->body += SAM_LINK_ID_BYTES;
     record->len -= SAM_LINK_ID_BYTES;
     for (int at = 0; at < SAM_LINK_ID_BYTES; at++)
-        stay->is_named |= stay->id[at] != 0;
-    if (sam_recovery_new(&replay->recovery, stay->id) != SAM_OK)
+        session->is_named |= session->id[at] != 0;
+    if (sam_recovery_new(&replay->recovery, session->id) != SAM_OK)
         replay->fault = REPLAY_SHORT;
 }
 
@@ -65,7 +57,7 @@ static void enter(struct replay *replay, char *folder)
     session->is_away = folder == NULL || chdir(folder) != 0;
     if (session->is_away)
         say("%s: %s", folder == NULL ? "the folder of the session" : folder, cause(errno));
-    if (session->is_away && (folder == NULL || !session->stay->is_to_end))
+    if (session->is_away && (folder == NULL || !session->is_to_end))
         replay->fault = REPLAY_NO_FOLDER;
 }
 
@@ -80,7 +72,7 @@ static void begin_as_recorded(struct replay *replay, struct record *record)
     }
     replay->is_other = start.is_other;
     session->mode_of_new_files = start.mode_of_new_files;
-    session->stay->longest_alone = start.longest_alone;
+    session->longest_alone = start.longest_alone;
     umask(0666 & ~session->mode_of_new_files);
     if (replay->is_again)
         free(start.folder);
@@ -99,27 +91,10 @@ static void take_server_record(struct replay *replay, const struct record *recor
     replay->taken += code == SAM_OK;
 }
 
-static void take_wanted(struct replay *replay, uint64_t number)
+static void take_ended(struct session *session, uint64_t status)
 {
-    if (!expect_write(&replay->session->stay->messages, (uint16_t)(number >> 32), (uint32_t)number))
-        replay->fault = REPLAY_SHORT;
-}
-
-static void take_held(struct replay *replay, struct record *record)
-{
-    char *name = take_words(record);
-    struct text text = {0};
-
-    text.bytes = (uint8_t *)take_data(record, &text.len);
-    if (name == NULL || record->is_wrong || add_closed(replay->session, 0, name, &text) == NULL)
-        replay->fault = record->is_wrong ? REPLAY_DIFFERS : REPLAY_SHORT;
-    free(name);
-}
-
-static void take_ended(struct stay *stay, uint64_t status)
-{
-    stay->has_ended = true;
-    stay->is_kept |= status == STATUS_LOST; /* the journal has what could not be saved */
+    session->has_ended = true;
+    session->is_kept |= status == STATUS_LOST; /* the journal has what could not be saved */
 }
 
 static void replay_entry(struct replay *replay, uint8_t kind, struct record *record)
@@ -132,18 +107,8 @@ static void replay_entry(struct replay *replay, uint8_t kind, struct record *rec
         replay->has_begun = true;
     else if (kind == ENTRY_KNOWN)
         take_document(session, record);
-    else if (kind == ENTRY_CUT)
-        take_copy(record, &session->cut.aside);
-    else if (kind == ENTRY_WANTED)
-        take_wanted(replay, take_number(record));
-    else if (kind == ENTRY_ANSWERED)
-        drop_request(&session->stay->messages, (uint16_t)take_number(record));
-    else if (kind == ENTRY_HELD)
-        take_held(replay, record);
-    else if (kind == ENTRY_FREED)
-        drop_closed(session, take_number(record));
     else if (kind == ENTRY_ENDED)
-        take_ended(session->stay, take_number(record));
+        take_ended(session, take_number(record));
     else
         record->is_wrong = true;
     if (record->is_short)
@@ -175,25 +140,23 @@ static struct record_place replay_all(struct replay *replay, const struct text *
     struct record_place end = first_record();
     struct record record;
 
-    while (replay->fault == REPLAY_OK && next_record(all, replay->session->stay->journal.random, &end, &record))
+    while (replay->fault == REPLAY_OK && next_record(all, replay->session->journal.random, &end, &record))
         replay_record(replay, &record);
     return end;
 }
 
-/* Cuts off what a crash has left of the last records. Where the journal is damaged instead, it stays as it is: the disk had what stands
- * before what its records say. */
+/* Cuts off what a crash has left of the last records. Where the journal is damaged instead, or nothing is to be added, it stays as it is:
+ * the disk had what stands before what its records say. */
 static enum replay_fault cut_to_whole_records(struct replay *replay, const struct text *all)
 {
-    struct stay *stay = replay->session->stay;
-    size_t end = stay->journal.end.at;
+    struct session *session = replay->session;
+    size_t end = session->journal.end.at;
 
-    if (!replay->has_begun && all->len == first_record().at)
-        return REPLAY_NOTHING;
     replay->is_damaged = !replay->has_begun || is_journal_damaged(all, end);
-    stay->journal.damaged_at = end;
     if (!replay->has_begun)
         return REPLAY_DAMAGED;
-    return replay->is_damaged || end == all->len || cut_journal(stay, all, end) == 0 ? REPLAY_OK : REPLAY_UNREADABLE;
+    bool is_left = replay->is_damaged || replay->is_unfinished || session->is_to_end || end == all->len;
+    return is_left || cut_journal(session, end) == 0 ? REPLAY_OK : REPLAY_UNREADABLE;
 }
 
 /* Makes the server, which goes on behind all of them, and forgets closed files. A write whose end nobody knows is none. */
@@ -206,14 +169,12 @@ static void finish_server(struct replay *replay)
         replay->fault = REPLAY_SHORT;
         return;
     }
-    if (replay->is_damaged && sam_server_next_effect(session->server, &effect) == SAM_OK && effect.kind == SAM_EFFECT_WRITE)
+    bool is_cut_short = replay->is_damaged || replay->is_unfinished;
+    if (is_cut_short && sam_server_next_effect(session->server, &effect) == SAM_OK && effect.kind == SAM_EFFECT_WRITE)
         session->documents[effect.tag].is_unmarked = true;
-    for (size_t tag = 1, tags = count_tags(session); tag < tags; tag++) {
+    for (size_t tag = 1, tags = count_tags(session); tag < tags; tag++)
         forget_closed(session, (uint16_t)tag);
-        know_again(&session->documents[tag].aside);
-    }
-    know_again(&session->cut.aside);
-    if (!session->stay->is_named && !tell_hidden(session))
+    if (!session->is_named && !tell_hidden(session))
         replay->fault = REPLAY_SHORT;
 }
 
@@ -233,7 +194,7 @@ bool begin_server_again(struct session *session)
     struct replay again = {.session = session, .most = SIZE_MAX, .is_again = true};
     struct text all = {0};
     sam_server *server = calloc(1, sizeof *server);
-    bool is_made = server != NULL && begin_journal_anew(session) && map_records(session->stay->journal.file, &all) == 0;
+    bool is_made = server != NULL && complete_journal(session) && map_records(session->journal.file, &all) == 0;
 
     if (is_made)
         (void)replay_all(&again, &all);
@@ -248,43 +209,43 @@ bool begin_server_again(struct session *session)
     (void)sam_server_free(session->server);
     free(session->server);
     session->server = server;
-    drop_turn(&session->stay->journal);
+    drop_turn(&session->journal);
     return true;
-}
-
-/* What there is of a journal of which the library says this. */
-static enum replay_fault fault_of_head(sam_status head)
-{
-    return head == SAM_OK ? REPLAY_OK : head == SAM_JOURNAL_OTHER_VERSION ? REPLAY_OTHER : REPLAY_DAMAGED;
 }
 
 enum replay_fault begin_again(struct session *session)
 {
-    struct stay *stay = session->stay;
     struct replay replay = {.session = session, .most = SIZE_MAX};
     struct text all;
     sam_status head;
-    int error = open_journal(stay, &all, &head);
+    int error = open_journal(session, &all, &head, &replay.is_unfinished);
 
-    session->is_made_again = true;
-    replay.fault = error != 0 ? REPLAY_UNREADABLE : fault_of_head(head);
+    replay.fault = error != 0                          ? REPLAY_UNREADABLE
+                   : head == SAM_JOURNAL_OTHER_VERSION ? REPLAY_OTHER
+                   : head != SAM_OK                    ? REPLAY_DAMAGED
+                                                       : REPLAY_OK;
     if (replay.fault == REPLAY_OK && !make_session(session))
         replay.fault = REPLAY_SHORT;
     if (replay.fault == REPLAY_OK)
-        stay->journal.end = replay_all(&replay, &all);
+        session->journal.end = replay_all(&replay, &all);
     if (replay.fault == REPLAY_DIFFERS && replay.taken > 0)
         make_known(&replay, &all);
     if (replay.fault == REPLAY_OK)
         replay.fault = cut_to_whole_records(&replay, &all);
     if (replay.fault == REPLAY_OK)
         finish_server(&replay);
-    if (replay.fault == REPLAY_OK && !replay.is_damaged && !replay.is_other)
-        sync_journal(session); /* who wrote it may have been killed before */
-    else
-        close_journal(&stay->journal); /* it stays as it is */
     (void)sam_recovery_free(&replay.recovery);
     close_records(&all);
-    if (replay.is_damaged && (replay.fault == REPLAY_OK || replay.fault == REPLAY_DIFFERS))
-        return REPLAY_DAMAGED;
-    return replay.fault == REPLAY_OK && replay.is_other ? REPLAY_OTHER : replay.fault;
+    if (replay.fault == REPLAY_OK)
+        replay.fault = replay.is_damaged      ? REPLAY_DAMAGED
+                       : replay.is_unfinished ? REPLAY_UNFINISHED
+                       : replay.is_other      ? REPLAY_OTHER
+                                              : REPLAY_OK;
+    if (replay.fault == REPLAY_OK && !session->is_to_end && fdatasync(session->journal.file) != 0) /* who wrote it may not have done so */
+        replay.fault = REPLAY_UNREADABLE;
+    if (replay.fault == REPLAY_OK && !session->is_to_end)
+        sync_journal(session);
+    else
+        close_journal(&session->journal); /* it stays as it is */
+    return replay.fault;
 }

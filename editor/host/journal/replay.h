@@ -9,7 +9,7 @@ struct session;
 /* Why a session can't be made again of its journal. */
 enum replay_fault {
     REPLAY_OK,
-    REPLAY_NOTHING, /* it had not begun */
+    REPLAY_UNFINISHED, /* the journal could not be written to its end; what it has is known */
     REPLAY_UNREADABLE,
     REPLAY_OTHER,      /* the journal is of another version */
     REPLAY_OTHER_FORM, /* and its records are of another form, so nothing is known of its texts */

@@ -4,15 +4,11 @@
 #include <time.h>
 
 #include "net/event_loop.h"
-#include "disk/autosave.h"
-#include "session/persistent_session.h"
 #include "session/session.h"
-#include "sulgrevad.h"
 
 enum {
-    IDLE = 2000,             /* milliseconds of quiet after which changed texts are saved aside */
-    LONGEST_UNSAVED = 10000, /* milliseconds after which they are, while messages still come */
-    PAUSE = 100              /* milliseconds until memory is asked for again */
+    IDLE = 2000,            /* milliseconds of quiet after which changed texts are saved aside */
+    LONGEST_UNSAVED = 10000 /* milliseconds after which they are, while messages still come */
 };
 
 static volatile sig_atomic_t was_signalled;
@@ -35,28 +31,6 @@ void delay_save(struct due *due)
     due->is_waiting = true;
 }
 
-/* How many milliseconds are left until texts are to be saved aside. */
-static int64_t time_left(const struct due *due)
-{
-    int64_t idle = due->last + IDLE, longest = due->first + LONGEST_UNSAVED;
-    int64_t left = (idle < longest ? idle : longest) - now();
-
-    return left > 0 ? left : 0;
-}
-
-/* Where that fails it is tried again after LONGEST_UNSAVED, or at the next quiet. */
-bool save_due(struct session *session)
-{
-    struct due *due = &session->due;
-
-    if (!due->is_waiting || time_left(due) > 0)
-        return false;
-    due->is_waiting = !save_changed(session);
-    due->first = now();
-    due->last = due->first + LONGEST_UNSAVED - IDLE;
-    return true;
-}
-
 int64_t earlier(int64_t one, int64_t other)
 {
     return one < 0 || (other >= 0 && other < one) ? other : one;
@@ -64,9 +38,23 @@ int64_t earlier(int64_t one, int64_t other)
 
 int64_t save_is_due_in(const struct session *session)
 {
-    int64_t left = session->due.is_waiting ? time_left(&session->due) : -1;
+    const struct due *due = &session->due;
+    int64_t left = earlier(due->last + IDLE, due->first + LONGEST_UNSAVED) - now();
 
-    return session->stay->is_short && (left < 0 || left > PAUSE) ? PAUSE : left;
+    return !due->is_waiting ? -1 : left > 0 ? left : 0;
+}
+
+/* Where that fails it is tried again after LONGEST_UNSAVED, or at the next quiet. */
+bool save_due(struct session *session)
+{
+    struct due *due = &session->due;
+
+    if (save_is_due_in(session) != 0)
+        return false;
+    due->is_waiting = !save_changed(session);
+    due->first = now();
+    due->last = due->first + LONGEST_UNSAVED - IDLE;
+    return true;
 }
 
 /* ---- Signals ---- */

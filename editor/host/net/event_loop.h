@@ -4,9 +4,7 @@
 
 #include <signal.h>
 #include <stdbool.h>
-#include <stddef.h>
 #include <stdint.h>
-#include <sys/types.h>
 
 struct due;
 struct session;
@@ -29,7 +27,7 @@ bool save_due(struct session *session);
 /* The earlier of two times; -1 is no time. */
 int64_t earlier(int64_t one, int64_t other);
 
-/* In how many milliseconds save_due, or take_turns where memory is out, is to be called; -1 where neither is. */
+/* In how many milliseconds save_due is to be called; -1 where it isn't. */
 int64_t save_is_due_in(const struct session *session);
 
 #endif

@@ -3,7 +3,6 @@
 #define SAMHOST_NET_HANDSHAKE_H
 
 #include <signal.h>
-#include <stdbool.h>
 #include <stddef.h>
 #include <stdint.h>
 
@@ -11,7 +10,6 @@
 #include "sulgrevad.h"
 
 struct session;
-struct stay;
 
 enum {
     MOST_CALLERS = 8,   /* connections without a hello */
@@ -33,6 +31,8 @@ enum {
 struct caller {
     int socket; /* -1 where there is none */
     int64_t since;
+    uint32_t what; /* what a hello that is whole asks for, and of which session */
+    uint8_t id[SAM_LINK_ID_BYTES];
     size_t len;
     uint8_t bytes[CALLER_ROOM];
 };
@@ -47,7 +47,7 @@ struct waiter {
 void name_machine(char machine[MACHINE_ROOM]);
 
 /* Takes connections that wait, those that are the user's. */
-void accept_callers(struct stay *stay);
+void accept_callers(struct session *session);
 
 /* Reads what a connection without a hello says, and does it. */
 void hear_caller(struct session *session, struct caller *caller);
@@ -56,6 +56,10 @@ void hear_caller(struct session *session, struct caller *caller);
  * refused, or none comes, which is said. */
 int hear_streams(struct session *session, const sigset_t *mask);
 
+/* Waits a while for the hello of a terminal at standard input, and refuses it, since no session of its name is there: else that would look
+ * like a dead line. Returns the exit status. */
+int refuse_hello(sam_status why);
+
 /* Before a file is closed: says to those who wait for it whether it was written. */
 void report_closing(struct session *session, uint16_t tag);
 
@@ -63,7 +67,7 @@ void report_closing(struct session *session, uint16_t tag);
 void report_closed(struct session *session);
 
 /* Ends connections that have said too little for too long. Returns in how many milliseconds the next one is due; -1 where there is none. */
-int64_t drop_callers(struct stay *stay);
+int64_t drop_callers(struct session *session);
 
 /* The newest connection is over. */
 void drop_line(struct session *session);

@@ -1,23 +1,21 @@
 /* relay.c: carries bytes between standard input and output and the socket of a session that stays, and knows nothing of them.
  *
- * It ends where either side does. Where no session listens it refuses the terminal's hello itself: else that would look like a dead line.
+ * It ends where either side does. It waits for either end alone, and writes no more than goes at once where there is room: so no flag of a
+ * stream is set, which other programs would see as well.
  */
 #define _GNU_SOURCE
 #include <errno.h>
-#include <fcntl.h>
 #include <poll.h>
 #include <signal.h>
-#include <string.h>
-#include <sys/socket.h>
+#include <stdbool.h>
+#include <stdint.h>
 #include <unistd.h>
 
 #include "net/relay.h"
 #include "limits.h"
-#include "net/event_loop.h"
 #include "session/ending.h"
-#include "sulgrevad.h"
 
-enum { LONGEST_HELLO = 10000 }; /* milliseconds that the terminal's hello is waited for, to be refused */
+enum { MOST_AT_ONCE = 4096 }; /* bytes for which a pipe that has room has room (PIPE_BUF) */
 
 /* Bytes on their way, and where they come from and go to. */
 struct flow {
@@ -29,42 +27,6 @@ struct flow {
     uint8_t bytes[PIECE];
 };
 
-static bool is_for_later(int error)
-{
-    return error == EAGAIN || error == EWOULDBLOCK || error == EINTR;
-}
-
-/* Reads where all before was sent. */
-static void fill(struct flow *flow)
-{
-    if (flow->sent < flow->len || flow->has_ended || flow->is_broken)
-        return;
-    ssize_t count = read(flow->from, flow->bytes, PIECE);
-    flow->sent = flow->len = 0;
-    if (count > 0)
-        flow->len = (size_t)count;
-    else
-        flow->has_ended = count == 0 || !is_for_later(errno);
-    flow->has_come |= count > 0;
-}
-
-static void drain(struct flow *flow)
-{
-    if (flow->sent == flow->len || flow->is_broken)
-        return;
-    ssize_t count = write(flow->to, flow->bytes + flow->sent, flow->len - flow->sent);
-    if (count >= 0)
-        flow->sent += (size_t)count;
-    else
-        flow->is_broken = !is_for_later(errno);
-}
-
-/* Whether all has gone that came, and no more comes. */
-static bool is_through(const struct flow *flow)
-{
-    return flow->has_ended && (flow->is_broken || flow->sent == flow->len);
-}
-
 /* What a flow waits for: room, or bytes; nothing, where it is broken. */
 static struct pollfd awaited(const struct flow *flow)
 {
@@ -73,53 +35,41 @@ static struct pollfd awaited(const struct flow *flow)
     return (struct pollfd){flow->is_broken ? -1 : has_bytes ? flow->to : flow->from, has_bytes ? POLLOUT : POLLIN, 0};
 }
 
-static void set_blocking(const int flags[2])
+/* Does what a flow has waited for. */
+static void carry(struct flow *flow)
 {
-    fcntl(STDIN_FILENO, F_SETFL, flags[0]);
-    fcntl(STDOUT_FILENO, F_SETFL, flags[1]);
+    size_t left = flow->len - flow->sent;
+    ssize_t count = left > 0 ? write(flow->to, flow->bytes + flow->sent, left < MOST_AT_ONCE ? left : MOST_AT_ONCE)
+                             : read(flow->from, flow->bytes, PIECE);
+
+    if (count < 0 && (errno == EAGAIN || errno == EINTR))
+        return;
+    if (left > 0) {
+        flow->sent += count > 0 ? (size_t)count : 0;
+        flow->is_broken = count < 0;
+    } else {
+        flow->sent = 0;
+        flow->len = count > 0 ? (size_t)count : 0;
+        flow->has_ended = count <= 0;
+        flow->has_come |= count > 0;
+    }
 }
 
 int relay(int line)
 {
-    static struct flow up, down;
-    const int flags[] = {fcntl(STDIN_FILENO, F_GETFL), fcntl(STDOUT_FILENO, F_GETFL)};
-    const int waits_for_none[] = {flags[0] | O_NONBLOCK, flags[1] | O_NONBLOCK};
+    static struct flow up = {.from = STDIN_FILENO}, down = {.to = STDOUT_FILENO};
 
     signal(SIGPIPE, SIG_IGN);
-    up.from = STDIN_FILENO;
-    down.to = STDOUT_FILENO;
     up.to = down.from = line;
-    fcntl(line, F_SETFL, fcntl(line, F_GETFL) | O_NONBLOCK);
-    set_blocking(waits_for_none);
-    while (!is_through(&up) && !is_through(&down) && !down.is_broken) {
+    while (!up.has_ended && !down.has_ended && !down.is_broken) {
         struct pollfd ends[] = {awaited(&up), awaited(&down)};
-        (void)poll(ends, 2, -1);
-        fill(&up);
-        drain(&up);
-        fill(&down);
-        drain(&down);
+        if (poll(ends, 2, -1) < 0)
+            continue;
+        if (ends[0].revents != 0)
+            carry(&up);
+        if (ends[1].revents != 0)
+            carry(&down);
     }
-    set_blocking(flags);
     close(line);
-    return is_through(&up) || (is_through(&down) && down.has_come) ? STATUS_OK : STATUS_BROKEN;
-}
-
-int refuse_hello(uint32_t why)
-{
-    uint8_t hello[SAM_LINK_HELLO_BYTES], id[SAM_LINK_ID_BYTES], refusal[SAM_LINK_HELLO_BYTES];
-    uint32_t what;
-    uint64_t attempt;
-    size_t len = 0;
-    int64_t until = now() + LONGEST_HELLO;
-
-    while (len < sizeof hello && sam_link_read_hello(hello, len, &what, id, &attempt) == SAM_NONE && now() < until) {
-        struct pollfd end = {STDIN_FILENO, POLLIN, 0};
-        ssize_t count = poll(&end, 1, (int)(until - now())) > 0 ? read(STDIN_FILENO, hello + len, sizeof hello - len) : 0;
-        if (count <= 0)
-            break;
-        len += (size_t)count;
-    }
-    if (sam_link_write_refusal(why, hello, len, refusal) == SAM_OK)
-        (void)!write(STDOUT_FILENO, refusal, sizeof refusal); /* where it doesn't go, the status says it */
-    return STATUS_NO_SESSION;
+    return up.has_ended || (down.has_ended && down.has_come) ? STATUS_OK : STATUS_BROKEN;
 }

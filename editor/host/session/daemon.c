@@ -5,8 +5,6 @@
 #define _GNU_SOURCE
 #include <errno.h>
 #include <fcntl.h>
-#include <inttypes.h>
-#include <stdio.h>
 #include <stdlib.h>
 #include <string.h>
 #include <sys/socket.h>
@@ -17,26 +15,20 @@
 
 #include "session/daemon.h"
 #include "disk/errors.h"
-#include "journal/journal.h"
+#include "disk/fallback_directories.h"
 #include "journal/journal_records.h"
 #include "journal/replay.h"
-#include "log.h"
 #include "net/event_loop.h"
-#include "net/handshake.h"
 #include "net/relay.h"
-#include "session/ending.h"
-#include "session/messages.h"
 #include "session/persistent_session.h"
 #include "session/session.h"
 #include "session/session_control.h"
-#include "session/session_directory.h"
 #include "session/turns.h"
-#include "sulgrevad.h"
 
 enum {
     LONGEST_START = 10000, /* milliseconds that a session may take until it listens */
     LONGEST_BARE = 259200, /* seconds that a folder without a journal stays whose samhost is gone: three days */
-    NAP = 20000000         /* nanoseconds between two attempts */
+    NAP = 5000000          /* nanoseconds between two attempts */
 };
 
 /* ---- Errors ---- */
@@ -55,46 +47,42 @@ static int say_home(const char *name, int error)
 
 /* ---- A process of its own ---- */
 
-struct session *make_staying(const struct home *home, int64_t longest_alone)
+/* Makes a session without files, in a folder that is its own from now on, where it has one. Where memory is out that is said, and the
+ * folder is closed; one without a journal goes. */
+static struct session *make_staying(struct home *home, int64_t longest_alone)
 {
     struct session *session = calloc(1, sizeof *session);
-    struct stay *stay = session == NULL ? NULL : calloc(1, sizeof *stay);
 
-    if (stay == NULL) {
-        free(session);
+    if (session == NULL) {
+        say("out of memory");
+        if (!has_journal(home))
+            remove_home(home);
+        close_home(home);
         return NULL;
     }
-    stay->home = *home;
-    stay->listener = stay->line = stay->line_out = stay->journal.file = -1;
-    stay->longest_alone = longest_alone;
+    session->home = *home;
+    session->listener = session->line = session->line_out = session->journal.file = -1;
+    session->longest_alone = longest_alone;
     for (int at = 0; at < MOST_CALLERS; at++)
-        stay->callers[at].socket = -1;
+        session->callers[at].socket = -1;
     for (int at = 0; at < MOST_WAITERS; at++)
-        stay->waiters[at].socket = -1;
-    session->stay = stay;
+        session->waiters[at].socket = -1;
     return session;
 }
 
-void free_staying(struct session *session)
+/* Frees a session, and closes what it has open. Its folder stays. */
+static void free_staying(struct session *session)
 {
-    struct stay *stay = session->stay;
-
-    set_listener(NULL, NULL);
-    free_messages(&stay->messages);
-    close_journal(&stay->journal);
-    for (int at = 0; at < MOST_CALLERS; at++) {
-        if (stay->callers[at].socket >= 0)
-            close(stay->callers[at].socket);
-    }
-    for (int at = 0; at < MOST_WAITERS; at++) {
-        if (stay->waiters[at].socket >= 0)
-            close(stay->waiters[at].socket);
-    }
-    if (stay->listener >= 0)
-        close(stay->listener);
-    close_home(&stay->home);
+    listen_for_messages(NULL);
+    free_messages(&session->messages);
+    close_journal(&session->journal);
+    for (int at = 0; at < MOST_CALLERS; at++)
+        close_file(&session->callers[at].socket);
+    for (int at = 0; at < MOST_WAITERS; at++)
+        close_file(&session->waiters[at].socket);
+    close_file(&session->listener);
+    close_home(&session->home);
     free_session(session);
-    free(stay);
 }
 
 /* Leaves the terminal and the standard streams of the process that called. */
@@ -109,117 +97,30 @@ static void go_alone(void)
         close(nowhere);
 }
 
-/* Serves the session, in the process that was begun for it, and says so by a byte. Returns the exit status. */
-static int serve_alone(struct session *session, int begun)
-{
-    struct stay *stay = session->stay;
-    sigset_t mask;
-    int status = STATUS_BROKEN;
-
-    set_signals(&mask); /* before its process is named, so that a signal ends it as any session */
-    go_alone();
-    write_owner(&stay->home);
-    bool is_listening = listen_at(stay->listener) == 0;
-    bool is_awaited = is_listening && (write(begun, "", 1) == 1 || stay->is_named); /* its terminal comes back, where who called is gone */
-    close(begun);
-    if (is_awaited) {
-        status = stay_and_serve(session);
-        for (struct session *heir; (heir = session->stay->heir) != NULL; session = heir) {
-            free_staying(session);
-            listen_for_messages(heir);
-            status = stay_and_serve(heir);
-        }
-        if (!session->stay->is_kept)
-            remove_home(&session->stay->home);
-    }
-    free_staying(session);
-    return status;
-}
-
 static int say_not_begun(const struct home *home, const char *why)
 {
-    set_listener(NULL, NULL);
+    listen_for_messages(NULL);
     say("session %s did not begin: %s", home->name, why);
     return STATUS_BROKEN;
 }
 
-/* Begins another process. Hands out its number, and an end of a pipe: in that process it goes to serve_alone. */
-static int begin_process(pid_t *process, int *end)
+/* Serves a session, in the process that was begun for it. Where it can't, one to which no terminal has come goes. Returns the exit status. */
+static int serve_alone(struct session *session)
 {
-    int ends[2];
+    sigset_t mask;
+    int status = STATUS_BROKEN, error = bind_home(&session->home, &session->listener);
 
-    if (pipe(ends) != 0)
-        return errno;
-    *process = fork();
-    int error = *process < 0 ? errno : 0;
-    if (*process != 0)
-        close(ends[1]);
-    if (*process <= 0)
-        close(ends[0]);
-    *end = ends[*process == 0];
-    return error;
-}
-
-/* Whether the other process serves the session by now; else it has ended. */
-static bool has_begun(int end)
-{
-    uint8_t byte;
-    ssize_t count;
-
-    do
-        count = read(end, &byte, 1);
-    while (count < 0 && errno == EINTR);
-    close(end);
-    return count == 1;
-}
-
-/* Goes on in two processes: one serves the session, one relays. Returns the exit status of either. */
-static int part(struct session *session)
-{
-    struct stay *stay = session->stay;
-    int end, line, error = bind_home(&stay->home, &stay->listener);
-    pid_t process;
-
+    set_signals(&mask); /* before its process is named, so that a signal ends it as any session */
+    write_owner(&session->home);
     if (error == 0)
-        error = begin_process(&process, &end);
-    if (error != 0)
-        remove_home(&stay->home);
-    else if (process == 0)
-        return serve_alone(session, end);
-    bool is_there = error == 0 && has_begun(end);
-    if (is_there)
-        error = connect_home(&stay->home, 0, &line);
-    is_there &= error == 0;
-    int status = is_there ? STATUS_OK : say_not_begun(&stay->home, error == 0 ? "its process ended" : cause(error));
-    free_staying(session);
-    return is_there ? relay(line) : status;
-}
-
-/* ---- Beginning ---- */
-
-/* Begins a session in its folder, which is locked. Returns the exit status. */
-static int begin_in(struct home *home, char **paths, int count, const struct options *options)
-{
-    struct session *session = make_staying(home, options->longest_alone);
-
-    if (session == NULL) {
-        say("out of memory");
-        remove_home(home);
-        close_home(home);
-        return STATUS_MEMORY;
-    }
-    listen_for_messages(session);
-    int status = open_session(session, paths, count, options);
-    if (status == STATUS_OK) {
-        make_journal(session, JOURNAL);
-        record_start(session);
-        sync_home(&session->stay->home);
-        write_about(session);
-        report_others(session);
-        return part(session);
-    }
-    say_gathered(session);
-    remove_home(home);
+        error = listen_at(session->listener);
+    if (error == 0) {
+        go_alone();
+        status = stay_and_serve(session);
+    } else
+        (void)say_not_begun(&session->home, cause(error));
+    if (error == 0 ? !session->is_kept : !session->is_named)
+        remove_home(&session->home);
     free_staying(session);
     return status;
 }
@@ -234,7 +135,7 @@ static int serve_session(struct session *session)
 
     set_signals(&mask);
     int status = hear_streams(session, &mask);
-    if (status == STATUS_OK && session->stay->is_named) {
+    if (status == STATUS_OK && session->is_named) {
         fcntl(STDOUT_FILENO, F_SETFL, flags | O_NONBLOCK);
         status = stay_and_serve(session);
         fcntl(STDOUT_FILENO, F_SETFL, flags);
@@ -249,11 +150,9 @@ int serve_streams(char **paths, int count, const struct options *options)
         memcpy(nowhere.name, options->name, sizeof nowhere.name);
     struct session *session = make_staying(&nowhere, 0);
 
-    if (session == NULL) {
-        say("out of memory");
+    if (session == NULL)
         return STATUS_MEMORY;
-    }
-    session->stay->has_streams = true;
+    session->has_streams = true;
     listen_for_messages(session);
     int status = open_session(session, paths, count, options);
     if (status == STATUS_OK)
@@ -269,36 +168,32 @@ int serve_streams(char **paths, int count, const struct options *options)
 /* Connects to a session of which the folder is there. ENOENT where no samhost has it any more. */
 static int find(struct home *home, int *line)
 {
-    const struct timespec nap = {0, NAP};
     int64_t until = now() + LONGEST_START;
     int error;
 
     while ((error = connect_home(home, 0, line)) != 0 && error != EPERM && now() < until) {
         int locked = lock_home(home);
-        if (locked == 0 || locked == ENOENT)
-            return ENOENT;
-        nanosleep(&nap, NULL); /* it has begun, and doesn't listen yet */
+        if (locked != EWOULDBLOCK)
+            return locked == 0 ? ENOENT : locked;
+        nanosleep(&(struct timespec){0, NAP}, NULL); /* it has begun, and doesn't listen yet */
     }
     return error == ENOENT ? ETIMEDOUT : error;
 }
 
 static const char *why_not_again(enum replay_fault fault)
 {
-    switch (fault) {
-    case REPLAY_OTHER:
-    case REPLAY_OTHER_FORM:
-        return "its journal is of another version of samhost";
-    case REPLAY_DIFFERS:
-        return "its journal has records that lead nowhere, which is a fault of samhost";
-    case REPLAY_SHORT:
-        return "out of memory";
-    case REPLAY_NO_FOLDER:
-        return "the folder in which it began can't be entered";
-    case REPLAY_UNREADABLE:
-        return "its journal can't be read, or not be cut to its whole records";
-    default:
-        return "it had not begun";
-    }
+    static const char *const words[] = {
+        [REPLAY_OTHER] = "its journal is of another version of samhost",
+        [REPLAY_OTHER_FORM] = "its journal is of another version of samhost",
+        [REPLAY_DIFFERS] = "its journal has records that lead nowhere, which is a fault of samhost",
+        [REPLAY_SHORT] = "out of memory",
+        [REPLAY_NO_FOLDER] = "the folder in which it began can't be entered",
+        [REPLAY_UNFINISHED] =
+            "its journal could not be written to its end, so of what came then only the copies are known that it has saved",
+        [REPLAY_UNREADABLE] = "its journal can't be read, or not be cut to its whole records",
+    };
+
+    return words[fault];
 }
 
 /* Keeps a journal that is wrong, so that it can be looked at, and says where. Returns whether it is kept. */
@@ -319,14 +214,14 @@ static bool keep_wrong(const struct home *home)
  * a journal that is wrong, or that has a text which could not be saved. Returns the exit status. */
 static int give_up(struct session *session, enum replay_fault fault, bool is_attached)
 {
-    struct home *home = &session->stay->home;
+    struct home *home = &session->home;
     bool is_wrong = fault == REPLAY_DAMAGED || fault == REPLAY_DIFFERS;
-    bool is_known = session->documents != NULL && (fault == REPLAY_OTHER || is_wrong);
-    bool is_for_ever = is_known || is_wrong || fault == REPLAY_NOTHING;
+    bool is_known = session->documents != NULL && (fault == REPLAY_OTHER || fault == REPLAY_UNFINISHED || is_wrong);
+    bool is_for_ever = is_known || is_wrong;
 
     say_gathered(session);
     if (fault == REPLAY_DAMAGED)
-        say("session %s can't go on: its journal is damaged at byte %" PRIu64, home->name, session->stay->journal.damaged_at);
+        say("session %s can't go on: its journal is damaged at byte %zu", home->name, session->journal.end.at);
     else
         say("session %s can't go on: %s", home->name, why_not_again(fault));
     if (fault == REPLAY_OTHER)
@@ -345,60 +240,79 @@ static int give_up(struct session *session, enum replay_fault fault, bool is_att
 /* Names the folder as the session is named, where a takeover had not come to that. */
 static void finish_naming(struct session *session)
 {
-    struct stay *stay = session->stay;
     char name[NAME_DIGITS + 1];
 
-    name_of_id(stay->id, name);
-    if (stay->is_named && strcmp(name, stay->home.name) != 0 && rename_home(&stay->home, name) == 0)
-        sync_home(&stay->home);
+    name_of_id(session->id, name);
+    if (session->is_named && strcmp(name, session->home.name) != 0 && rename_home(&session->home, name) == 0)
+        (void)sync_home(&session->home);
 }
 
 /* Makes a session again whose samhost is gone, and serves it. Returns the exit status. */
-static int serve_again(struct home *home, int begun)
+static int serve_again(struct home *home)
 {
     struct session *session = make_staying(home, 0);
 
-    if (session == NULL) {
-        say("out of memory");
-        close_home(home);
+    if (session == NULL)
         return STATUS_MEMORY;
-    }
     listen_for_messages(session);
     enum replay_fault fault = begin_again(session);
     if (fault != REPLAY_OK)
         return give_up(session, fault, true);
     finish_naming(session);
-    int error = bind_home(&session->stay->home, &session->stay->listener);
+    return serve_alone(session);
+}
+
+/* Has another process serve a new session; or where that is NULL go on with the one of a folder that is locked, whose samhost is gone. This
+ * one relays. A long journal may take longer than a terminal waits, which then ends this process: so the other one makes the session again,
+ * and the next connection finds it. Returns the exit status of either. */
+static int serve_apart(struct home *home, struct session *session)
+{
+    pid_t process = fork(), gone = process < 0;
+    int line = -1, ended = 0, error = process < 0 ? errno : 0;
+
+    if (process == 0) {
+        (void)setsid();
+        return session == NULL ? serve_again(home) : serve_alone(session);
+    }
+    while (gone == 0 && ((error = connect_home(home, 0, &line)) == ENOENT || error == ECONNREFUSED)) { /* it doesn't listen yet */
+        gone = waitpid(process, &ended, WNOHANG);
+        nanosleep(&(struct timespec){0, NAP}, NULL);
+    }
+    if (session != NULL)
+        free_staying(session);
+    else
+        close_home(home);
     if (error == 0)
-        return serve_alone(session, begun);
-    int status = say_not_begun(&session->stay->home, cause(error));
+        return relay(line);
+    if (gone == process)
+        return WIFEXITED(ended) ? WEXITSTATUS(ended) : say_not_begun(home, "its process ended");
+    return say_not_begun(home, cause(error));
+}
+
+/* ---- Beginning ---- */
+
+/* Begins a session in its folder, which is locked. Returns the exit status. */
+static int begin_in(struct home *home, char **paths, int count, const struct options *options)
+{
+    struct session *session = make_staying(home, options->longest_alone);
+
+    if (session == NULL)
+        return STATUS_MEMORY;
+    listen_for_messages(session);
+    int status = open_session(session, paths, count, options);
+    if (status == STATUS_OK) {
+        begin_fresh_journal(session);
+        write_about(session);
+        report_others(session);
+        return serve_apart(home, session);
+    }
+    say_gathered(session);
+    remove_home(home);
     free_staying(session);
     return status;
 }
 
-/* Has another process go on with a session whose samhost is gone, and relays to it; the folder is locked. A long journal may take longer
- * than a terminal waits, which then ends this process: so the other one makes the session again, and the next connection finds it. Returns
- * the exit status of either. */
-static int go_on(struct home *home)
-{
-    pid_t process;
-    int end, line, ended = 0, error = begin_process(&process, &end);
-
-    if (error == 0 && process == 0) {
-        (void)setsid();
-        return serve_again(home, end);
-    }
-    bool is_there = error == 0 && has_begun(end);
-    if (is_there)
-        error = connect_home(home, 0, &line);
-    close_home(home);
-    if (error != 0)
-        return say_not_begun(home, cause(error));
-    if (is_there)
-        return relay(line);
-    bool has_said_why = waitpid(process, &ended, 0) == process && WIFEXITED(ended);
-    return has_said_why ? WEXITSTATUS(ended) : say_not_begun(home, "its process ended");
-}
+/* ---- Its end ---- */
 
 /* Says what is left of a session that has no journal, unless that is nothing and its samhost has just ended it. Returns the exit status. */
 static int report_rest(const struct home *home, bool has_ended)
@@ -418,20 +332,16 @@ int end_without_samhost(struct home *home, bool has_ended)
 {
     struct session *session = make_staying(home, 0);
 
-    if (session == NULL) {
-        say("out of memory");
-        close_home(home);
+    if (session == NULL)
         return STATUS_MEMORY;
-    }
-    session->stay->is_to_end = true;
-    session->stay->is_kept = true; /* until all is saved */
+    session->is_to_end = true;
     bool has_some = has_journal(home);
-    enum replay_fault fault = has_some ? begin_again(session) : REPLAY_NOTHING;
-    if (fault != REPLAY_OK && fault != REPLAY_NOTHING)
+    enum replay_fault fault = has_some ? begin_again(session) : REPLAY_OK;
+    if (fault != REPLAY_OK)
         return give_up(session, fault, false);
-    if (fault == REPLAY_OK)
+    if (has_some)
         (void)take_all(session); /* writes a file, if that was asked for last */
-    int status = !has_some ? report_rest(home, has_ended) : fault == REPLAY_OK ? close_session(session, INPUT_ENDED) : STATUS_OK;
+    int status = has_some ? close_session(session, INPUT_ENDED) : report_rest(home, has_ended);
     if (status == STATUS_LOST)
         say("session %s stays, since its journal has what is not saved: --end can be tried again", home->name);
     else
@@ -444,9 +354,9 @@ int end_without_samhost(struct home *home, bool has_ended)
  * status. */
 static int refuse_name(const char *name)
 {
-    char *path;
+    char *path = state_path();
 
-    if (!has_state_folder(&path))
+    if (path == NULL || access(path, F_OK) != 0)
         say("there is no state folder%s%s, so no session is found", path == NULL ? "" : " ", path == NULL ? "" : path);
     else
         say("there is no session%s%s", name == NULL ? "" : " ", name == NULL ? "" : name);
@@ -472,14 +382,6 @@ static bool is_left(const struct home *home)
     return is_left_alone(home) || is_left_bare(home);
 }
 
-static int find_left(struct home *home, void *at)
-{
-    bool *has_some = at;
-
-    *has_some |= is_left(home);
-    return 0;
-}
-
 /* Ends a session that is left alone, unless a samhost has it. */
 static int end_left(struct home *home, void *at)
 {
@@ -495,8 +397,7 @@ static int end_left(struct home *home, void *at)
  * folders, and nobody waits for it. */
 static void end_those_left(void)
 {
-    bool has_some = false;
-    pid_t process = each_home(find_left, &has_some) == 0 && has_some ? fork() : -1;
+    pid_t process = fork();
 
     if (process > 0)
         (void)waitpid(process, NULL, 0);
@@ -511,48 +412,61 @@ static void end_those_left(void)
 
 /* ---- What the words ask for ---- */
 
+/* Relays to a session, which another process goes on with where its samhost is gone, and hands out the exit status. False where it has no
+ * journal: then it is locked, unless it has just ended. */
+static bool joins(struct home *home, const char *name, int *status)
+{
+    int line, error = find(home, &line);
+
+    if (error == ENOENT && (home->lock < 0 || !has_journal(home)))
+        return false;
+    if (error == ENOENT) {
+        *status = serve_apart(home, NULL);
+    } else {
+        close_home(home);
+        *status = error == 0 ? relay(line) : say_home(name, error);
+    }
+    return true;
+}
+
 int attach(const char *name)
 {
     struct home home;
     char heir[NAME_DIGITS + 1];
-    int line, error = open_named(name, &home);
+    int status, error = open_named(name, &home);
 
-    if (error == 0) {
-        error = find(&home, &line);
-        if (error == ENOENT && home.lock >= 0 && has_journal(&home))
-            return go_on(&home);
-        if (error == ENOENT && home.lock >= 0) {
-            (void)report_rest(&home, false);
-            remove_home(&home);
-        }
-        close_home(&home);
-    }
-    if (error == 0)
-        return relay(line);
-    if (error != ENOENT)
+    if (error != 0 && error != ENOENT)
         return say_home(name, error);
+    if (error == 0 && joins(&home, name, &status))
+        return status;
+    if (error == 0 && home.lock >= 0)
+        (void)end_without_samhost(&home, false);
+    else if (error == 0)
+        close_home(&home);
     return find_heir(name, heir) ? refuse_hello(SAM_LINK_OTHER_SESSION) : refuse_name(name);
 }
 
 int begin_to_stay(char **paths, int count, const struct options *options)
 {
     struct home home;
+    int status;
 
     end_those_left();
     int error = open_home(options->name, true, &home);
     if (error != 0)
         return say_home(options->name, error);
-    error = lock_home(&home);
-    if (error == 0 && !has_journal(&home))
+    if (joins(&home, options->name, &status))
+        return status;
+    if (home.lock >= 0)
         return begin_in(&home, paths, count, options);
     close_home(&home);
-    return error == 0 || error == EWOULDBLOCK ? attach(options->name) : say_home(options->name, error);
+    return refuse_name(options->name);
 }
 
-/* Whether a session is over, and its samhost is gone: it has no journal, but a wrong one perhaps. */
+/* Whether a session is over, and its samhost is gone: it has no journal from which another can go on. */
 static bool is_over(struct home *home)
 {
-    return !has_journal(home) && lock_home(home) == 0;
+    return !has_whole_journal(home) && lock_home(home) == 0;
 }
 
 /* Notes the name of a session, if it is the first. */

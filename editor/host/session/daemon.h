@@ -4,17 +4,9 @@
 #define SAMHOST_SESSION_DAEMON_H
 
 #include <stdbool.h>
-#include <stdint.h>
 
 struct home;
 struct options;
-struct session;
-
-/* Makes a session without files, in a folder that is its own from now on, where it has one. NULL where memory is out. */
-struct session *make_staying(const struct home *home, int64_t longest_alone);
-
-/* Frees a session, and closes what it has open. Its folder stays. */
-void free_staying(struct session *session);
 
 /* Relays to a session for a terminal that takes it over: to the only one where no name is given. Returns the exit status. */
 int take(const char *name);

@@ -7,21 +7,14 @@
 #include <errno.h>
 #include <stdlib.h>
 #include <string.h>
-#include <sys/stat.h>
 
 #include "session/file_requests.h"
 #include "disk/errors.h"
 #include "disk/file_reader.h"
-#include "disk/file_watcher.h"
-#include "disk/paths.h"
 #include "disk/recovery.h"
 #include "disk/saves.h"
 #include "journal/journal_records.h"
-#include "limits.h"
-#include "session/messages.h"
-#include "session/persistent_session.h"
 #include "session/session.h"
-#include "sulgrevad.h"
 
 enum {
     MOST_NAMES = 200,                           /* names that complete a path */
@@ -33,16 +26,14 @@ enum {
 /* The tag of a file that the session has already; 0 where it has none. */
 static uint16_t find_file(struct session *session, const struct identity *wanted)
 {
-    size_t tags = count_tags(session);
     uint16_t found = 0;
 
-    for (size_t tag = 1; tag < tags && found == 0; tag++) {
-        struct identity identity = {0};
+    for (size_t tag = 1, tags = count_tags(session); tag < tags && found == 0; tag++) {
+        struct identity identity;
         int error;
         char *path = is_hidden(session, tag) || !has_file(session, tag) ? NULL : path_of(session, (uint16_t)tag, &error);
         if (path != NULL && identify(path, &identity) == 0 && is_one_file(&identity, wanted))
             found = (uint16_t)tag;
-        free(identity.name);
         free(path);
     }
     return found;
@@ -71,7 +62,6 @@ int join_file(struct session *session, const char *path, uint16_t *tag)
     if (error != 0)
         return error == ENOENT ? NO_FOLDER : error;
     *tag = find_file(session, &identity);
-    free(identity.name);
     return *tag != 0 ? 0 : add_joined(session, path, tag);
 }
 
@@ -120,7 +110,7 @@ static bool add_name(char names[NAMES_ROOM], const char *folder, const char *ent
 static bool find_names(struct session *session, uint32_t request, const char *path)
 {
     char names[NAMES_ROOM] = "";
-    const char *slash = strrchr(path, '/'), *part = slash == NULL ? path : slash + 1;
+    const char *part = last_of(path);
     char *folder = folder_of(path);
     struct dirent **entries = NULL;
     int taken = 0, count = folder == NULL ? 0 : scandir(*folder == '\0' ? "." : folder, &entries, NULL, alphasort);
@@ -145,9 +135,12 @@ static bool find_names(struct session *session, uint32_t request, const char *pa
 
 static bool want_write(struct session *session, uint16_t tag, uint32_t request)
 {
-    if (!expect_write(&session->stay->messages, tag, request))
+    bool is_wanted = is_tag(session, tag);
+
+    if (is_wanted && !expect_write(&session->documents[tag], request))
         return false;
-    record_wanted(session, tag, request);
+    if (is_wanted)
+        record_document(session, tag);
     return true;
 }
 

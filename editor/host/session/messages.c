@@ -4,19 +4,14 @@
  */
 #define _XOPEN_SOURCE 700
 #include <stdarg.h>
-#include <stdio.h>
 #include <stdlib.h>
 #include <string.h>
 
 #include "session/messages.h"
-#include "journal/journal_records.h"
 #include "log.h"
-#include "net/handshake.h"
-#include "session/persistent_session.h"
 #include "session/session.h"
-#include "sulgrevad.h"
 
-enum { MOST_REQUESTS = 1024 }; /* writes that are asked for and have not come */
+static struct session *listener; /* whose messages tell what happened; NULL: that goes to standard error */
 
 static const char *words_or_none(const char *words)
 {
@@ -96,14 +91,14 @@ bool put_message(struct session *session, const struct event *event, const char 
 
     if (message == NULL)
         return false;
-    append(&session->stay->messages.waiting, message);
+    append(&session->messages.waiting, message);
     put_messages(session);
     return true;
 }
 
 bool put_first_message(struct session *session, const char *name)
 {
-    struct messages *messages = &session->stay->messages;
+    struct messages *messages = &session->messages;
     struct message *others = messages->waiting;
     char machine[MACHINE_ROOM];
 
@@ -116,9 +111,9 @@ bool put_first_message(struct session *session, const char *name)
 
 void put_messages(struct session *session)
 {
-    struct messages *messages = &session->stay->messages;
+    struct messages *messages = &session->messages;
 
-    if (!session->stay->is_named)
+    if (!session->is_named)
         return;
     while (messages->waiting != NULL) {
         sam_status code = sam_server_say(session->server, messages->waiting->bytes, messages->waiting->len);
@@ -131,18 +126,12 @@ void put_messages(struct session *session)
     say_missing(messages);
 }
 
-static void free_list(struct message *message)
+void free_messages(struct messages *messages)
 {
-    for (struct message *next; message != NULL; message = next) {
+    for (struct message *message = messages->waiting, *next; message != NULL; message = next) {
         next = message->next;
         free(message);
     }
-}
-
-void free_messages(struct messages *messages)
-{
-    free_list(messages->waiting);
-    free_list(messages->requests);
     *messages = (struct messages){0};
 }
 
@@ -150,32 +139,27 @@ void free_messages(struct messages *messages)
 
 /* Whether standard error is to have the words of a message: there is no terminal; or it may be gone and won't come back, or memory is
  * out. */
-static bool is_said_aloud(const struct stay *stay, bool is_put)
+static bool is_said_aloud(const struct session *session, bool is_put)
 {
-    bool is_cut_off = stay->is_named && (stay->line < 0 || stay->line_out < 0);
-    bool is_stuck = stay->is_named && stay->messages.waiting != NULL;
+    bool is_cut_off = session->is_named && (session->line < 0 || session->line_out < 0);
+    bool is_stuck = session->is_named && session->messages.waiting != NULL;
 
-    return who_listens() == NULL || (stay->has_streams && (is_cut_off || is_stuck || !is_put));
+    return listener == NULL || (session->has_streams && (is_cut_off || is_stuck || !is_put));
 }
 
 static void hear(struct session *session, const struct event *event, const char *words)
 {
-    bool is_put = put_message(session, event, words), is_aloud = is_said_aloud(session->stay, is_put);
+    bool is_put = put_message(session, event, words), is_aloud = is_said_aloud(session, is_put);
 
     if (is_aloud)
         say_aloud(words);
     else if (!is_put)
-        session->stay->messages.missing++;
-}
-
-static void hear_line(void *at, const char *line)
-{
-    hear(at, &(struct event){.kind = SAM_NOTE_SAID}, line);
+        session->messages.missing++;
 }
 
 void listen_for_messages(struct session *session)
 {
-    set_listener(hear_line, session);
+    listener = session;
 }
 
 void tell(const struct event *event, const char *format, ...)
@@ -186,18 +170,18 @@ void tell(const struct event *event, const char *format, ...)
     va_start(list, format);
     spell_line(words, format, list);
     va_end(list);
-    if (who_listens() != NULL)
-        hear(who_listens(), event, words);
+    if (listener != NULL)
+        hear(listener, event, words);
     else
         say_aloud(words);
 }
 
 void say_gathered(struct session *session)
 {
-    struct messages *messages = &session->stay->messages;
+    struct messages *messages = &session->messages;
     struct sam_note note;
 
-    set_listener(NULL, NULL);
+    listen_for_messages(NULL);
     for (const struct message *message = messages->waiting; message != NULL; message = message->next) {
         if (sam_note_read(message->bytes, message->len, &note) == SAM_OK && note.kind != SAM_NOTE_SESSION && note.text_len > 0)
             say("%.*s", (int)note.text_len, (const char *)message->bytes + note.text_at);
@@ -216,60 +200,35 @@ void say_missing(struct messages *messages)
 
 /* ---- Answers of writes ---- */
 
-bool expect_write(struct messages *messages, uint16_t tag, uint32_t request)
+bool expect_write(struct document *document, uint32_t request)
 {
-    struct message *message = malloc(sizeof *message + SAM_LINK_MOST_NOTE);
-    int count = 0;
-
-    for (const struct message *other = messages->requests; other != NULL; other = other->next)
-        count++;
-    if (message == NULL || count >= MOST_REQUESTS) {
-        free(message);
-        return count >= MOST_REQUESTS; /* nobody can wait for as many answers */
-    }
-    *message = (struct message){.request = request, .tag = tag};
-    append(&messages->requests, message);
-    return true;
-}
-
-/* Takes the oldest request for a write of a file out of the list; NULL where there is none. */
-static struct message *take_request(struct messages *messages, uint16_t tag)
-{
-    struct message **at = &messages->requests;
-
-    while (*at != NULL && (*at)->tag != tag)
-        at = &(*at)->next;
-    struct message *found = *at;
-    if (found != NULL)
-        *at = found->next;
-    return found;
-}
-
-void drop_request(struct messages *messages, uint16_t tag)
-{
-    free(take_request(messages, tag));
+    if (document->answer == NULL)
+        document->answer = malloc(sizeof *document->answer + SAM_LINK_MOST_NOTE);
+    if (document->answer != NULL)
+        document->answer->request = request;
+    return document->answer != NULL;
 }
 
 void answer_write(struct session *session, struct event event, const char *format, ...)
 {
     char words[LINE_ROOM];
-    struct message *answer = take_request(&session->stay->messages, event.tag);
+    struct document *document = &session->documents[event.tag];
+    struct message *answer = document->answer;
     va_list list;
 
     va_start(list, format);
     spell_line(words, format, list);
     va_end(list);
-    if (answer != NULL)
-        record_answered(session, event.tag);
+    document->answer = NULL;
     event.request = answer == NULL ? 0 : answer->request;
     if (answer == NULL)
         answer = malloc(sizeof *answer + SAM_LINK_MOST_NOTE);
     if (answer != NULL) {
         answer->len = spell(&event, words, answer->bytes);
-        append(&session->stay->messages.waiting, answer);
+        append(&session->messages.waiting, answer);
     } else
-        session->stay->messages.missing++;
+        session->messages.missing++;
     put_messages(session);
-    if (is_said_aloud(session->stay, answer != NULL))
+    if (is_said_aloud(session, answer != NULL))
         say_aloud(words);
 }

@@ -8,6 +8,7 @@
 
 #include "sulgrevad.h"
 
+struct document;
 struct session;
 
 enum { MESSAGES_VERSION = 1 }; /* of the messages, as the first one says */
@@ -22,23 +23,21 @@ struct event {
     const char *path, *copy;
 };
 
-/* A message for the terminal: one that waits to be put; or one that has room for the longest, and waits for the write that it answers. */
+/* A message for the terminal that waits to be put; or one that has room for the longest, and waits for the write that it answers. */
 struct message {
     struct message *next;
     uint32_t request; /* that is to be answered */
-    uint16_t tag;     /* of the file that is written */
     size_t len;
     uint8_t bytes[];
 };
 
 /* The messages of a session. */
 struct messages {
-    struct message *waiting;  /* to be put, the oldest first */
-    struct message *requests; /* of writes that have not come, the oldest first */
-    unsigned missing;         /* those that there was no memory for */
+    struct message *waiting; /* to be put, the oldest first */
+    unsigned missing;        /* those that there was no memory for */
 };
 
-/* Has what is said become messages, from now on. */
+/* Has what is said become messages of a session, from now on; NULL: has it go to standard error. */
 void listen_for_messages(struct session *session);
 
 /* Has it go to standard error again; first what was gathered. */
@@ -52,8 +51,9 @@ bool put_message(struct session *session, const struct event *event, const char 
 bool put_first_message(struct session *session, const char *name);
 
 /* Says what happened: to the terminal of the session that listens, by a message with a sentence for people; else by that sentence on
- * standard error. */
+ * standard error. And the same of what has no kind of its own. */
 void tell(const struct event *event, const char *format, ...);
+#define say(...) tell(&(struct event){.kind = SAM_NOTE_SAID}, __VA_ARGS__)
 
 /* Says the messages that wait, as soon as a terminal has come. */
 void put_messages(struct session *session);
@@ -62,13 +62,10 @@ void put_messages(struct session *session);
 void say_missing(struct messages *messages);
 
 /* Notes that the next write of a file answers this request. Returns whether there is memory for that. */
-bool expect_write(struct messages *messages, uint16_t tag, uint32_t request);
+bool expect_write(struct document *document, uint32_t request);
 
-/* Answers a write, or the oldest request for it. Words may be empty. */
+/* Answers a write, and the request for it. Words may be empty. */
 void answer_write(struct session *session, struct event event, const char *format, ...);
-
-/* A write was answered before. */
-void drop_request(struct messages *messages, uint16_t tag);
 
 void free_messages(struct messages *messages);
 

@@ -3,30 +3,20 @@
 #include <errno.h>
 #include <fcntl.h>
 #include <poll.h>
-#include <signal.h>
 #include <stdio.h>
 #include <stdlib.h>
 #include <string.h>
 #include <sys/socket.h>
 #include <sys/stat.h>
-#include <time.h>
 #include <unistd.h>
 
 #include "session/session_control.h"
 #include "disk/errors.h"
 #include "disk/file_reader.h"
-#include "disk/paths.h"
-#include "journal/journal.h"
-#include "limits.h"
 #include "log.h"
 #include "net/event_loop.h"
-#include "net/handshake.h"
 #include "session/daemon.h"
-#include "session/document.h"
-#include "session/ending.h"
-#include "session/persistent_session.h"
 #include "session/session.h"
-#include "session/session_directory.h"
 
 enum {
     LONGEST_ANSWER = 5000, /* milliseconds that an answer is waited for */
@@ -34,7 +24,7 @@ enum {
     LONGEST_LOOK = 1000,   /* milliseconds that they are before a session begins */
     LEAST_ANSWER = 100,    /* milliseconds that each of them is, however late it is */
     LONGEST_END = 90000,   /* milliseconds that the end of a session is waited for */
-    NAP = 50000000,        /* nanoseconds between two looks */
+    NAP = 50,              /* milliseconds between two looks */
     SPAN_ROOM = 32
 };
 
@@ -42,25 +32,17 @@ enum {
 
 void write_about(const struct session *session)
 {
-    const struct home *home = &session->stay->home;
+    const struct home *home = &session->home;
     const char *first = NULL, *folder = session->folder == NULL ? "?" : session->folder;
-    char *line;
-    int count = 0, file;
+    int count = 0, file, error = make_in_home(home, ABOUT, O_WRONLY | O_TRUNC, &file);
 
-    (void)make_in_home(home, ABOUT, O_WRONLY | O_TRUNC, &file);
     for (size_t tag = 1; tag < ALL_TAGS && session->documents[tag].path != NULL && !is_hidden(session, tag); tag++, count++)
         first = count == 0 ? session->documents[tag].path : first;
-    if (first == NULL)
-        line = formatted("no files, in %s", folder);
-    else if (count == 1)
-        line = formatted("%s, in %s", first, folder);
-    else
-        line = formatted("%s and %d more, in %s", first, count - 1, folder);
-    if (file >= 0 && line != NULL)
-        (void)!write(file, line, strlen(line)); /* it is for people to read */
-    if (file >= 0)
-        close(file);
-    free(line);
+    if (error == 0 && count > 1)
+        (void)dprintf(file, "%s and %d more, in %s", first, count - 1, folder); /* it is for people to read */
+    else if (error == 0)
+        (void)dprintf(file, "%s, in %s", first == NULL ? "no files" : first, folder);
+    close_file(&file);
 }
 
 /* ---- Asking ---- */
@@ -104,8 +86,7 @@ static int ask_state(const struct home *home, int64_t longest, struct state *sta
     char answer[ANSWER_ROOM];
     int line, error = ask(home, "list", sizeof "list", longest, answer, &line);
 
-    if (line >= 0)
-        close(line);
+    close_file(&line);
     if (error == 0 && sscanf(answer, "%lld %lld %d", &state->seconds, &state->alone_for, &state->unsaved) != 3)
         error = EPROTO;
     return error;
@@ -139,26 +120,26 @@ static void read_about(const struct home *home, char about[ANSWER_ROOM])
     ssize_t count = file < 0 ? 0 : read(file, about, ANSWER_ROOM - 1);
 
     about[count > 0 ? count : 0] = '\0';
-    if (file >= 0)
-        close(file);
+    close_file(&file);
     make_printable(about);
 }
 
-/* Lists a session whose samhost does not answer. */
+/* Lists a session whose samhost does not answer. One that has just ended is not there any more. */
 static void list_silent(struct home *home, const char *about)
 {
     char *wrong = find_wrong_journal(home);
     int error = lock_home(home);
+    bool is_wrong = error != EWOULDBLOCK && !has_journal(home) && wrong != NULL;
+    const char *state = error == EWOULDBLOCK      ? "its samhost has not answered in time"
+                        : has_whole_journal(home) ? "its samhost is gone, and another can begin from its journal"
+                        : has_journal(home)       ? "its samhost is gone, and --end saves what its journal has"
+                        : is_wrong                ? "its journal is wrong, and kept in "
+                                                  : "its samhost is gone, and there is no journal";
 
-    if (error == EWOULDBLOCK)
-        printf("%s  its samhost has not answered in time  %s\n", home->name, about);
-    else if (has_journal(home))
-        printf("%s  its samhost is gone, and another can begin from its journal  %s\n", home->name, about);
-    else if (wrong != NULL) {
+    if (is_wrong)
         make_printable(wrong);
-        printf("%s  its journal is wrong, and kept in %s  %s\n", home->name, wrong, about);
-    } else if (error == 0)
-        printf("%s  its samhost is gone, and there is no journal  %s\n", home->name, about);
+    if (is_wrong || error == 0 || error == EWOULDBLOCK || has_journal(home))
+        printf("%s  %s%s  %s\n", home->name, state, is_wrong ? wrong : "", about);
     free(wrong);
 }
 
@@ -204,21 +185,19 @@ static int compare_with(struct home *home, void *at)
     struct session *session = new->session;
     char answer[ANSWER_ROOM], words[IDENTITY_ROOM];
     int line = -1;
-    bool is_itself = strcmp(home->name, session->stay->home.name) == 0;
+    bool is_itself = strcmp(home->name, session->home.name) == 0;
     bool has_some = !is_itself && ask(home, "changed", sizeof "changed", time_left(&new->until), answer, &line) == 0 && *answer == ' ';
 
-    if (line >= 0)
-        close(line);
+    close_file(&line);
     for (size_t tag = 1, tags = count_tags(session); has_some && tag < tags; tag++) {
         const struct document *document = &session->documents[tag];
-        struct identity identity = {0};
+        struct identity identity;
         bool is_known = document->path != NULL && !is_hidden(session, tag) && identify(document->path, &identity) == 0;
         if (is_known)
             spell_identity(&identity, words);
         if (is_known && strstr(answer, words) != NULL)
             say("%s has changes in session %s that are not written; samterm --take .. %s, or samhost --take %s, goes on with them",
                 document->path, home->name, home->name, home->name);
-        free(identity.name);
     }
     return 0;
 }
@@ -232,35 +211,21 @@ void report_others(struct session *session)
 
 /* ---- The end ---- */
 
-/* Signals an older samhost, which can't be asked, to end. One that is in another container has no number here. */
-static int signal_end(int line)
-{
-    pid_t process = 0;
-
-    if (!is_ours(line, &process) || process <= 0)
-        return EPERM;
-    return kill(process, SIGTERM) == 0 ? 0 : errno;
-}
-
 /* Asks the samhost of a session to end, where one listens. */
 static int ask_to_end(const struct home *home, bool *is_asked)
 {
     char answer[ANSWER_ROOM];
     int line, error = ask(home, "end", sizeof "end", LONGEST_ANSWER, answer, &line);
 
-    *is_asked = line >= 0;
-    if (!*is_asked)
-        return error == EAGAIN ? ETIMEDOUT : 0; /* else it is gone, or has not begun to listen */
-    error = strcmp(answer, "ends\n") != 0 ? signal_end(line) : 0;
-    close(line);
-    return error;
+    *is_asked = line >= 0; /* it takes the question also where its answer is late */
+    close_file(&line);
+    return !*is_asked && error == EAGAIN ? ETIMEDOUT : 0; /* else it is gone, or has not begun to listen */
 }
 
 /* Has the samhost of a session end, and waits until it has; hands out whether it could be asked. 0 where it was gone, and its folder is
  * locked now; ENOENT once all of it is gone. */
 static int end_living(struct home *home, bool *is_asked)
 {
-    const struct timespec nap = {0, NAP};
     int64_t until = now() + LONGEST_END;
 
     for (;;) {
@@ -269,7 +234,7 @@ static int end_living(struct home *home, bool *is_asked)
             error = lock_home(home);
         if (error != EWOULDBLOCK || now() >= until)
             return error;
-        nanosleep(&nap, NULL);
+        (void)poll(NULL, 0, NAP);
     }
 }
 
@@ -301,7 +266,7 @@ int end_session(const char *name)
 struct newest {
     char name[NAME_DIGITS + 1];
     bool is_in_use;
-    struct timespec begun;
+    int64_t begun; /* when, in nanoseconds */
     int64_t until; /* until when answers are waited for */
 };
 
@@ -313,14 +278,12 @@ static int find_newest(struct home *home, void *at)
 
     if (fstatat(home->folder, ABOUT, &status, AT_SYMLINK_NOFOLLOW) != 0 || ask_state(home, time_left(&newest->until), &state) != 0)
         return 0;
-    const struct timespec *begun = &status.st_mtim;
-    bool is_in_use = state.alone_for < 0;
-    bool is_newer = begun->tv_sec > newest->begun.tv_sec;
-    is_newer |= begun->tv_sec == newest->begun.tv_sec && begun->tv_nsec > newest->begun.tv_nsec;
+    int64_t begun = (int64_t)status.st_mtim.tv_sec * 1000000000 + status.st_mtim.tv_nsec;
+    bool is_in_use = state.alone_for<0, is_newer = begun> newest->begun;
     if (*newest->name == '\0' || (is_in_use == newest->is_in_use ? is_newer : is_in_use)) {
         memcpy(newest->name, home->name, sizeof newest->name);
         newest->is_in_use = is_in_use;
-        newest->begun = *begun;
+        newest->begun = begun;
     }
     return 0;
 }
@@ -386,7 +349,6 @@ int open_in_session(const char *name, const char *path, const char *line, bool w
     else if (error != 0)
         say("%s: %s", path, cause(error));
     int status = error != 0 || strncmp(answer, "opened", 6) != 0 ? STATUS_UNREADABLE : !waits ? STATUS_OK : await_close(socket);
-    if (socket >= 0)
-        close(socket);
+    close_file(&socket);
     return status;
 }

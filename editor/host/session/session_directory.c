@@ -20,13 +20,8 @@
 #include "session/session_directory.h"
 #include "disk/fallback_directories.h"
 #include "disk/paths.h"
-#include "log.h"
 
-enum {
-    MOST_WAITING = 16, /* connections that wait to be accepted */
-    MOST_WRONG = 99,   /* wrong journals that are kept; a later one takes the place of the last */
-    WRONG_ROOM = 32
-};
+enum { MOST_WAITING = 16 }; /* connections that wait to be accepted */
 
 #define SOCKET "socket"
 #define LOCK "lock"
@@ -48,17 +43,8 @@ static int open_alone(int above, const char *name, int *folder)
         return errno == ENOTDIR || errno == ELOOP ? EPERM : errno;
     if (fstat(*folder, &status) == 0 && status.st_uid == geteuid() && (status.st_mode & 0777) == 0700)
         return 0;
-    close(*folder);
-    *folder = -1;
+    close_file(folder);
     return EPERM;
-}
-
-bool has_state_folder(char **path)
-{
-    struct stat status;
-
-    *path = state_path();
-    return *path != NULL && lstat(*path, &status) == 0;
 }
 
 /* Opens the folder in which all of them lie. */
@@ -93,19 +79,16 @@ int open_home(const char *name, bool makes, struct home *home)
 
 void close_home(struct home *home)
 {
-    const int files[] = {home->all, home->folder, home->lock};
-
-    for (size_t at = 0; at < sizeof files / sizeof files[0]; at++) {
-        if (files[at] >= 0)
-            close(files[at]);
-    }
-    home->all = home->folder = home->lock = -1;
+    close_file(&home->all);
+    close_file(&home->folder);
+    close_file(&home->lock);
 }
 
-void sync_home(const struct home *home)
+int sync_home(const struct home *home)
 {
-    (void)fsync(home->folder); /* where that can't be, what the disk has is up to the system */
-    (void)fsync(home->all);
+    int error = fsync(home->folder) == 0 && fsync(home->all) == 0 ? 0 : errno;
+
+    return error == EINVAL || error == ENOTSUP ? 0 : error; /* not every kind of file system can */
 }
 
 int rename_home(struct home *home, const char name[NAME_DIGITS + 1])
@@ -118,7 +101,7 @@ int rename_home(struct home *home, const char name[NAME_DIGITS + 1])
 
 void remove_home(struct home *home)
 {
-    const char *const names[] = {JOURNAL, NEW_JOURNAL, TORN_JOURNAL, SOCKET, BEFORE, ABOUT, LOCK};
+    const char *const names[] = {UNFINISHED_JOURNAL, JOURNAL, NEW_JOURNAL, SOCKET, BEFORE, ABOUT, LOCK};
     char *wrong = find_wrong_journal(home);
     size_t count = sizeof names / sizeof names[0] - (wrong != NULL ? 2 : 0); /* that is listed still */
 
@@ -140,15 +123,6 @@ int make_in_home(const struct home *home, const char *name, int flags, int *file
 
 /* ---- Wrong journals ---- */
 
-/* The name of a wrong journal, by its number. */
-static void name_wrong(int number, char name[WRONG_ROOM])
-{
-    if (number == 1)
-        snprintf(name, WRONG_ROOM, WRONG_JOURNAL);
-    else
-        snprintf(name, WRONG_ROOM, WRONG_JOURNAL ".%d", number);
-}
-
 static bool is_there(const struct home *home, const char *name)
 {
     return faccessat(home->folder, name, F_OK, AT_SYMLINK_NOFOLLOW) == 0;
@@ -167,13 +141,11 @@ static char *path_in(const struct home *home, const char *name)
 
 int keep_wrong_journal(const struct home *home, char **path)
 {
-    char name[WRONG_ROOM];
-    int number = 1;
-
-    for (name_wrong(number, name); is_there(home, name) && number < MOST_WRONG; name_wrong(++number, name))
-        ;
-    *path = path_in(home, name);
-    if (renameat(home->folder, JOURNAL, home->folder, name) != 0)
+    *path = path_in(home, WRONG_JOURNAL);
+    if (is_there(home, WRONG_JOURNAL))
+        return EEXIST;
+    if (renameat(home->folder, JOURNAL, home->folder, WRONG_JOURNAL) != 0 &&
+        (errno != ENOENT || renameat(home->folder, UNFINISHED_JOURNAL, home->folder, WRONG_JOURNAL) != 0))
         return errno;
     (void)fsync(home->folder);
     return 0;
@@ -181,14 +153,7 @@ int keep_wrong_journal(const struct home *home, char **path)
 
 char *find_wrong_journal(const struct home *home)
 {
-    char name[WRONG_ROOM];
-
-    for (int number = MOST_WRONG; number >= 1; number--) {
-        name_wrong(number, name);
-        if (is_there(home, name))
-            return path_in(home, name);
-    }
-    return NULL;
+    return is_there(home, WRONG_JOURNAL) ? path_in(home, WRONG_JOURNAL) : NULL;
 }
 
 /* ---- The lock ---- */
@@ -212,20 +177,15 @@ int lock_home(struct home *home)
         error = errno;
     else if (!is_current(home))
         error = ENOENT;
-    if (error != 0) {
-        close(home->lock);
-        home->lock = -1;
-    }
+    if (error != 0)
+        close_file(&home->lock);
     return error;
 }
 
 void write_owner(const struct home *home)
 {
-    char words[32];
-    int len = snprintf(words, sizeof words, "%ld\n", (long)getpid());
-
     if (ftruncate(home->lock, 0) == 0)
-        (void)!pwrite(home->lock, words, (size_t)len, 0); /* it is for people to read */
+        (void)dprintf(home->lock, "%ld\n", (long)getpid()); /* it is for people to read */
 }
 
 /* ---- The socket ---- */
@@ -250,8 +210,8 @@ int bind_home(const struct home *home, int *listener)
     if (*listener < 0 || bind(*listener, (struct sockaddr *)&address, sizeof address) != 0)
         error = errno;
     umask(mask);
-    if (error != 0 && *listener >= 0)
-        close(*listener);
+    if (error != 0)
+        close_file(listener);
     return error;
 }
 
@@ -260,16 +220,12 @@ int listen_at(int listener)
     return listen(listener, MOST_WAITING) == 0 ? 0 : errno;
 }
 
-bool is_ours(int socket, pid_t *process)
+bool is_ours(int socket)
 {
     struct ucred other;
     socklen_t len = sizeof other;
 
-    if (getsockopt(socket, SOL_SOCKET, SO_PEERCRED, &other, &len) != 0 || other.uid != geteuid())
-        return false;
-    if (process != NULL)
-        *process = other.pid;
-    return true;
+    return getsockopt(socket, SOL_SOCKET, SO_PEERCRED, &other, &len) == 0 && other.uid == geteuid();
 }
 
 int connect_home(const struct home *home, int64_t longest, int *line)
@@ -282,11 +238,10 @@ int connect_home(const struct home *home, int64_t longest, int *line)
     if (*line < 0 || setsockopt(*line, SOL_SOCKET, SO_SNDTIMEO, &limit, sizeof limit) != 0 ||
         connect(*line, (struct sockaddr *)&address, sizeof address) != 0)
         error = errno;
-    else if (!is_ours(*line, NULL))
+    else if (!is_ours(*line))
         error = EPERM;
-    if (error != 0 && *line >= 0)
-        close(*line);
-    *line = error == 0 ? *line : -1;
+    if (error != 0)
+        close_file(line);
     return error;
 }
 
@@ -325,12 +280,11 @@ struct search {
 
 void write_names(const struct home *home, const char before[NAME_DIGITS + 1], const char after[NAME_DIGITS + 1])
 {
-    char lines[2 * NAME_DIGITS + 3];
-    int file, len = snprintf(lines, sizeof lines, "%s\n%s\n", before, after);
+    int file;
 
     if (make_in_home(home, BEFORE, O_WRONLY | O_APPEND, &file) != 0)
         return; /* an older terminal is then told that there is no session */
-    (void)!write(file, lines, (size_t)len);
+    (void)dprintf(file, "%s\n%s\n", before, after);
     (void)fsync(file);
     close(file);
 }
@@ -346,8 +300,7 @@ static int look_before(struct home *home, void *at)
         is_last = memcmp(line, search->name, NAME_DIGITS) == 0;
         is_found |= is_last;
     }
-    if (file >= 0)
-        close(file);
+    close_file(&file);
     if (is_found) {
         memcpy(search->heir, home->name, NAME_DIGITS + 1);
         search->is_last = is_last;

@@ -4,16 +4,13 @@
 
 #include <stdbool.h>
 #include <stdint.h>
-#include <sys/types.h>
-
-#include "log.h"
 
 enum { NAME_DIGITS = 16 }; /* digits of the name of a session that stays: the first half of its link's id */
 
 #define JOURNAL "journal" /* names of files in the folder of a session that stays */
 #define NEW_JOURNAL "journal.new"
-#define WRONG_JOURNAL "journal.wrong" /* one from which no session can be made; a number may follow */
-#define TORN_JOURNAL "journal.torn"   /* what was cut off the end of a journal, where a record is not whole */
+#define UNFINISHED_JOURNAL "journal.unfinished" /* one that could not be written to its end */
+#define WRONG_JOURNAL "journal.wrong"           /* one from which no session can be made */
 #define ABOUT "name"
 #define BEFORE "before" /* the names that the session had before other terminals took it over, and then the one that it has */
 
@@ -33,14 +30,11 @@ void close_home(struct home *home);
 /* Opens the folder of the session of a name; also one that a takeover has not come to name so. ENOENT where there is none. */
 int open_named(const char *name, struct home *home);
 
-/* Whether the folder of all sessions is there; hands out its path, in memory of the caller's: NULL where nothing names one. */
-bool has_state_folder(char **path);
-
 /* Opens a file in the folder, which is made where it isn't there, for the user alone whatever the umask. */
 int make_in_home(const struct home *home, const char *name, int flags, int *file);
 
 /* Has the folder be on the disk, with the names of what it has. */
-void sync_home(const struct home *home);
+int sync_home(const struct home *home);
 
 /* Gives the folder another name. */
 int rename_home(struct home *home, const char name[NAME_DIGITS + 1]);
@@ -48,7 +42,7 @@ int rename_home(struct home *home, const char name[NAME_DIGITS + 1]);
 /* Removes the folder and what a session has in it. One that has a wrong journal stays, with that. */
 void remove_home(struct home *home);
 
-/* Keeps the journal as a wrong one, and hands out its path, in memory of the caller's; NULL where memory is out. */
+/* Keeps the journal as a wrong one, unless there is one, and hands out its path, in memory of the caller's; NULL where memory is out. */
 int keep_wrong_journal(const struct home *home, char **path);
 
 /* The path of a wrong journal that the folder has, in memory of the caller's; NULL where it has none. */
@@ -68,8 +62,8 @@ int listen_at(int listener);
 /* Connects to the samhost of a session. Where too many others wait for it, EAGAIN after so many milliseconds; 0: after any time. */
 int connect_home(const struct home *home, int64_t longest, int *line);
 
-/* Whether the other end of a connection is the user's own; hands out its process, unless the pointer is NULL. */
-bool is_ours(int socket, pid_t *process);
+/* Whether the other end of a connection is the user's own. */
+bool is_ours(int socket);
 
 /* Visits the folder of each session, until a visit returns an error number. */
 int each_home(int (*visit)(struct home *home, void *at), void *at);

@@ -8,21 +8,13 @@
 #include <errno.h>
 
 #include "session/turns.h"
-#include "disk/autosave.h"
 #include "disk/errors.h"
 #include "disk/saves.h"
-#include "journal/journal.h"
 #include "journal/journal_records.h"
-#include "log.h"
 #include "net/event_loop.h"
-#include "net/handshake.h"
-#include "net/stream_place.h"
-#include "session/document.h"
 #include "session/file_requests.h"
-#include "session/messages.h"
 #include "session/persistent_session.h"
 #include "session/session.h"
-#include "sulgrevad.h"
 
 /* Whether a call of the server has taken what it was given. */
 static bool is_taken(sam_status code)
@@ -35,16 +27,13 @@ static bool is_taken(sam_status code)
 /* Gives the server what was read. Returns whether it took some. */
 static bool feed(struct session *session)
 {
-    struct stay *stay = session->stay;
-    struct piece *in = &stay->in;
+    struct piece *in = &session->in;
     size_t count = in->len - in->sent;
 
     if (count == 0)
         return false;
-    sam_status code = sam_server_receive(session->server, stay->attempt, in->bytes + in->sent, count);
+    sam_status code = sam_server_receive(session->server, count_of(session, sam_server_attempt), in->bytes + in->sent, count);
     if (is_taken(code)) {
-        if (stay->has_streams)
-            pass_bytes(&stay->place, in->bytes + in->sent, count);
         in->sent += count;
         delay_save(&session->due);
         return true;
@@ -56,14 +45,13 @@ static bool feed(struct session *session)
 
 void take_no_more(struct session *session)
 {
-    struct stay *stay = session->stay;
-    struct piece *in = &stay->in;
+    struct piece *in = &session->in;
 
-    if (stay->ending == FAULT) /* it would stop the server once more */
+    if (session->ending == FAULT) /* it would stop the server once more */
         in->sent = in->len;
     else if (sam_server_go_on(session->server) == SAM_OK)
         (void)feed(session);
-    stay->is_short = in->sent < in->len || sam_server_go_on(session->server) == SAM_UNFINISHED;
+    session->is_short = in->sent < in->len || sam_server_go_on(session->server) == SAM_UNFINISHED;
 }
 
 /* ---- What it asks for ---- */
@@ -98,19 +86,17 @@ static bool hear(struct session *session)
 /* Does what the server asks for. Returns whether there was memory for it. */
 static bool do_effect(struct session *session, const sam_effect *effect)
 {
-    struct stay *stay = session->stay;
-
-    if (!stay->is_done && effect->kind == SAM_EFFECT_WRITE)
+    if (!session->is_done && effect->kind == SAM_EFFECT_WRITE)
         write_file(session, effect->tag);
-    else if (!stay->is_done && effect->kind == SAM_EFFECT_CLOSE && !save_closing(session, effect->tag))
+    else if (!session->is_done && effect->kind == SAM_EFFECT_CLOSE && !save_closing(session, effect->tag))
         return false;
-    else if (!stay->is_done && effect->kind == SAM_EFFECT_HEAR && !hear(session))
+    else if (!session->is_done && effect->kind == SAM_EFFECT_HEAR && !hear(session))
         return false;
-    stay->is_done = true;
+    session->is_done = true;
     put_messages(session);
-    if (stay->messages.waiting != NULL || !put_marks(session) || !is_taken(sam_server_effect_done(session->server, 0)))
+    if (session->messages.waiting != NULL || !put_marks(session) || !is_taken(sam_server_effect_done(session->server, 0)))
         return false;
-    stay->is_done = false;
+    session->is_done = false;
     session->is_met = true;
     return true;
 }
@@ -129,11 +115,10 @@ static bool go_further(struct session *session)
 /* Whether something waits that has come, or that is to go out, since memory is out for it. */
 static bool is_left(struct session *session, sam_status code)
 {
-    const struct stay *stay = session->stay;
     sam_effect effect;
     size_t len;
 
-    return code == SAM_UNFINISHED || stay->in.sent < stay->in.len || (stay->is_named && stay->messages.waiting != NULL) ||
+    return code == SAM_UNFINISHED || session->in.sent < session->in.len || (session->is_named && session->messages.waiting != NULL) ||
            sam_server_next_effect(session->server, &effect) == SAM_OK || sam_server_record_len(session->server, &len) == SAM_OK;
 }
 
@@ -160,8 +145,7 @@ static void forget_closed_files(struct session *session)
 
 enum ending take_turns(struct session *session)
 {
-    struct stay *stay = session->stay;
-    bool is_over = false, was_short = stay->is_short, are_marked = true;
+    bool is_over = false, was_short = session->is_short, are_marked = true;
     sam_status code;
 
     do {
@@ -179,8 +163,8 @@ enum ending take_turns(struct session *session)
         return FAULT;
     }
     session->is_met |= has_been_used(session);
-    stay->is_short = !are_marked || is_left(session, code);
-    if (!stay->is_short)
+    session->is_short = !are_marked || is_left(session, code);
+    if (!session->is_short)
         forget_closed_files(session);
     else if (!was_short)
         say("out of memory; it is tried again");
@@ -194,8 +178,8 @@ enum ending take_all(struct session *session)
 
     do
         ending = take_turns(session);
-    while (ending == GOES_ON && session->stay->is_short && is_tried_again(ENOMEM, &tries));
-    if (ending == GOES_ON && session->stay->is_short) {
+    while (ending == GOES_ON && session->is_short && is_tried_again(ENOMEM, &tries));
+    if (ending == GOES_ON && session->is_short) {
         say("what came last from the terminal is lost: %s", cause(ENOMEM));
         session->is_cut_off = true; /* a file may count as written that is not, so all are compared with the disk */
     }

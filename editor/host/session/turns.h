@@ -2,8 +2,6 @@
 #ifndef SAMHOST_SESSION_TURNS_H
 #define SAMHOST_SESSION_TURNS_H
 
-#include <stdbool.h>
-
 #include "session/ending.h"
 
 struct session;

@@ -114,18 +114,18 @@ def check_copy_of_the_user(folder):
 
 
 def check_stale_host(folder):
-    """A host whose line is dead saves again at its end what it has saved before only if nobody has taken that copy away: one who wrote
-    the text and dropped the copy doesn't find it as unwritten work. What came later is saved."""
+    """A host whose line is dead saves its text at its end, also if its copy is gone since, as after a clean-up of the folder, unless the
+    file has that text."""
     (path,) = made(folder, a="one\n")
     copy = folder / "a.txt.sam-saved"
     for how in ("input", signal.SIGHUP):
-        for rest, is_saved in (("is gone", False), ("is another's", False), ("is there", True), ("is gone, and more was typed", True)):
+        for rest in ("is gone", "is another's", "is there", "is gone, and more was typed", "is written"):
             with Session(folder, "a.txt") as session:
                 session.type("two\n")
                 wait_until(copy.exists, "the text is not saved", IDLE + LATE)
                 session.let_pass(0.2)
                 if rest != "is there":
-                    path.write_text("one\ntwo\nthree\n")
+                    path.write_text("one\ntwo\n" if rest == "is written" else "one\ntwo\nthree\n")
                     copy.unlink()
                 if rest == "is another's":
                     copy.write_text("another's\n")
@@ -134,7 +134,7 @@ def check_stale_host(folder):
                     session.send()
                 expect_equal(session.end(how), 0, "the status")
                 copies = {text_of(left) for left in folder.glob("a.txt.sam-saved*")} - {"another's\n"}
-                wanted = {"one\ntwo\nlate " if "more" in rest else "one\ntwo\n"} if is_saved else set()
+                wanted = set() if rest == "is written" else {"one\ntwo\nlate " if "more" in rest else "one\ntwo\n"}
                 expect_equal(copies, wanted, f"{how}, the copy {rest}: what is saved")
             for left in folder.glob("a.txt.sam-saved*"):
                 left.unlink()
@@ -142,7 +142,7 @@ def check_stale_host(folder):
 
 
 def check_copy_whose_disk_is_gone(folder):
-    """A copy that goes with its disk nobody has taken away: the text is saved again at the end."""
+    """Where a copy goes with its disk, the text is saved again at the end."""
     with Session(folder, "place/a.txt", prefix=with_disk(folder, "place")) as session:
         session.type("two\n")
         inside = Path(f"/proc/{session.process.pid}/cwd/place/a.txt.sam-saved")
@@ -176,8 +176,7 @@ def check_copy_whose_folder_is_gone(folder):
 
 
 def check_copy_whose_folder_comes_back(folder):
-    """A copy that went with the folder of a session nobody has taken away: the text is saved again once that folder is there, and at the
-    end."""
+    """Where a copy went with the folder of a session, the text is saved again once that folder is there, and at the end."""
     for seconds in (0, IDLE + LATE):
         place, state = folder / f"after{seconds}", folder / f"state{seconds}"
         place.mkdir()

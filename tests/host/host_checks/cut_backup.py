@@ -5,8 +5,9 @@ import subprocess
 import time
 
 from checks import GIVEN_UP, expect, wait_until
+from sulgrevad import NoteKind
 
-from .support import IDLE, LATE, OPEN, SAMHOST, Line, Session, expect_equal, made, message, on_file, text_of, typed
+from .support import IDLE, LATE, OPEN, SAMHOST, Line, Session, as_nobody, expect_equal, made, message, on_file, text_of, typed
 
 
 def is_cut_saved(folder, session, cut, how):
@@ -71,7 +72,7 @@ def check_cut_and_more(folder):
 
 def check_cut_is_saved_by_itself(folder):
     """What was cut is saved after some quiet seconds, so that a kill costs no more, for its owner alone. The copy goes once the text is
-    pasted, or the terminal leaves. Where somebody took it away it is not saved again at the end."""
+    pasted, or the terminal leaves. Where somebody took it away it is saved again at the end."""
     copy = folder / "cut.sam-saved"
     (folder / "cut").write_text("open to all")
     for how in ("kill", "paste", "exit", "taken"):
@@ -95,15 +96,43 @@ def check_cut_is_saved_by_itself(folder):
             if how == "taken":
                 copy.unlink()
             expect_equal(session.end("exit" if how == "exit" else "input"), 0, f"{how}: the status")
-        expect(not copy.exists(), f"{how}: it is there at the end")
+        expect_equal(text_of(copy), "one" if how == "taken" else None, f"{how}: what is there at the end")
+        copy.unlink(missing_ok=True)
         (folder / "a.txt.sam-saved").unlink(missing_ok=True)
+
+
+def check_cut_beside_a_file_of_that_name(folder):
+    """The copy of a file that is named `cut` has another name than that of the last cut, and each is offered as what it is, beside the file
+    and in the user's own folder."""
+    for is_own in (False, True):
+        place = folder / str(is_own)
+        place.mkdir()
+        made(place)
+        (place / "cut").write_text("one\n")
+        (place / "b.txt").write_text("two\n")
+        prefix = ()
+        if is_own:
+            prefix = as_nobody(place)
+            place.chmod(0o555)
+        with Session(place, "cut", "b.txt", options=("--left",), prefix=prefix) as session:
+            session.type("more\n")
+            session.terminal.select(2, 0, 2)
+            session.terminal.cut(2)
+            session.settle()
+            expect_equal(session.end(), 0, "the status")
+        with Session(place, "cut", "b.txt", options=("--left",), prefix=prefix) as session:
+            notes = [note for note in session.line.messages if note.kind == NoteKind.EARLIER]
+            earlier = {(note.tag, note.code.name, text_of(place / os.fsdecode(note.copy))) for note in notes}
+            wanted = {(1, "NEWER", "one\nmore\n"), (2, "NEWER", "o\n"), (0, "CUT", "tw")}
+            expect_equal(earlier, wanted, f"own folder: {is_own}: what is told of earlier texts")
+        place.chmod(0o755)
 
 
 def check_cut_by_broken_lines(folder):
     """So it is where the line breaks inside a message, or the stream is wrong after it."""
     first_three = ((1).to_bytes(2, "big"), bytes(4), (3).to_bytes(4, "big"))
     snarf = message(11, *first_three) + message(9, *first_three)
-    for rest, status in ((b"", 0), (typed(1, 0, b"ab")[:-1], 6), (b"\xff", 3), (message(11, b"\0\7", bytes(8)), 3)):
+    for rest, status in ((b"", 0), (typed(1, 0, b"ab")[:-1], 0), (b"\xff", 3), (message(11, b"\0\7", bytes(8)), 3)):
         made(folder, a="one\n")
         for is_whole in (True, False):
             line, pipe = Line(), subprocess.PIPE

@@ -7,7 +7,9 @@ import shutil
 from pathlib import Path
 
 from checks import Skipped, expect, wait_until
+from sulgrevad import NoteCode, NoteKind
 
+from .line import with_calls
 from .support import (
     IDLE, IS_ROOT, LATE, LONGEST_UNSAVED, NOBODY, Session, as_nobody, expect_equal, expect_line, expect_only, front_of, made, names_in,
     own_copy, text_of, with_disk, without_mount,
@@ -175,20 +177,72 @@ def check_name_that_the_disk_lacks(folder):
     if shutil.which("strace") is None:
         raise Skipped("no strace")
     (path,) = made(folder, a="one\n")
-    for when, said in ((2, ["samhost: not written: a.txt: Input/output error; its text is in a.txt.sam-saved"]), ("2..4", None)):
-        failing = ("strace", "-qq", "-o", "/dev/null", "-e", f"inject=fsync:error=EIO:when={when}")  # first of the file, then of the folder
+    own = own_copy(folder, "a.txt")
+    for error, when, why, copy in (
+        ("EIO", "2", "Input/output error", folder / "a.txt.sam-saved"),
+        ("EROFS", "2", "Read-only file system", folder / "a.txt.sam-saved"),  # a disk that has met a fault, and takes no more
+        ("EIO", "2..4", "Input/output error", own),
+    ):
+        failing = ("strace", "-qq", "-o", "/dev/null", "-e", f"inject=fsync:error={error}:when={when}")  # of the file, then of the folder
         with Session(folder, "a.txt", prefix=failing) as session:
             session.type("two\n")
             session.write()
-            copy = folder / "a.txt.sam-saved" if said else own_copy(folder, "a.txt")
-            wanted = said or [f"samhost: not written: a.txt: Input/output error; its text is in {copy}"]
-            expect_equal((session.told(), text_of(copy)), (wanted, text_of(path)), f"{when}: what it says, and the copy")
+            wanted = [f"samhost: not written: a.txt: {why}; its text is in {copy if copy == own else copy.name}"]
+            expect_equal((session.told(), text_of(copy)), (wanted, text_of(path)), f"{error} {when}: what it says, and the copy")
             session.let_pass(IDLE + LATE)
-            expect(copy.exists(), f"{when}: the copy is gone")
+            expect(copy.exists(), f"{error} {when}: the copy is gone")
             session.write()
-            expect_equal(session.told(), [], f"{when}: what it says of the next write")
+            expect_equal(session.told(), [], f"{error} {when}: what it says of the next write")
             expect_equal(session.end(), 0, "the status")
         expect_only(folder, "a.txt")
+
+
+def check_typed_on_behind_a_name_that_the_disk_lacks(folder):
+    """What the host itself has put into a file is no other program's, though that counts as not written: the next text replaces it. What
+    another program puts there since is not replaced."""
+    if shutil.which("strace") is None:
+        raise Skipped("no strace")
+    for is_others in (False, True):
+        (path,) = made(folder, a="one\n")
+        failing = ("strace", "-qq", "-o", "/dev/null", "-e", "inject=fsync:error=EIO:when=2")
+        with Session(folder, "a.txt", prefix=failing) as session:
+            session.type("two\n")
+            session.write()
+            expect_line(session.told(), "not written: a.txt: Input/output error; its text is in a.txt.sam-saved")
+            if is_others:
+                path.write_text("another's\n")
+            session.type("three\n")
+            session.write()
+            if is_others:
+                expect_line(session.told(), "not written: a.txt: another program changed it, and the next write replaces it; its text is .*")
+            else:
+                expect_equal(session.told(), [], "what it says of the next write")
+            expect_equal(session.end(), 0, "the status")
+        expect_equal(text_of(path), "another's\n" if is_others else "one\ntwo\nthree\n", "the file")
+        (folder / "a.txt.sam-saved").unlink(missing_ok=True)
+
+
+def check_written_over_what_could_not_be_read(folder):
+    """A file that can't be read as it is to be written is not replaced at once, and that is told as the reason. The next write replaces it,
+    as that says, also where it can be read by then; and keeps what it had."""
+    for is_linked in (False, True):
+        (path,) = made(folder, a="one\n")
+        if is_linked:
+            os.link(path, folder / "b.txt")
+        with Session(folder, "a.txt") as session:
+            session.type("two\n")
+            with with_calls(session.process.pid, f"inject=openat:error=EIO:when={5 if is_linked else 3}"):  # the look at what is replaced
+                session.write()
+            why = "it can't be read, so another program may have changed it, and the next write replaces it"
+            expect_line(session.told(), f"not written: a.txt: {why}; its text is in a.txt.sam-saved")
+            refused = [note.code for note in session.line.messages if note.kind == NoteKind.NOT_SAVED]
+            expect_equal(refused, [NoteCode.UNREADABLE], "the code")
+            expect_equal(text_of(path), "one\n", "the file")
+            session.write()
+            expect_line(session.told(), "a.txt is replaced; what another program had written there is in a.txt.sam-theirs")
+            expect_equal((text_of(path), text_of(folder / "a.txt.sam-theirs")), ("one\ntwo\n", "one\n"), "the file, and what it had")
+            expect_equal(session.end(), 0, "the status")
+        (folder / "a.txt.sam-theirs").unlink()
 
 
 def check_name_in_a_folder_that_can_t_be_read(folder):
@@ -236,12 +290,12 @@ def check_not_regular(folder):
         expect_line(session.told(), r"not written: fifo: it is not a regular file; its text is in fifo.sam-saved")
         session.rename("no/where/")
         session.write()
-        copy = folder / "temporary" / "sulgrevad" / (front_of(f"{folder}/no/where/", "unnamed") + ".sam-saved")
-        expect_line(session.told(), rf"not written: no/where/: No such file or directory; its text is in {copy}")
+        copy, line = folder / "unnamed-1.sam-saved", r"not written: file 1: it has no name yet, or .*; its text is in unnamed-1.sam-saved"
+        expect_line(session.told(), line)
         expect(not (folder / "fifo.sam-saved").exists(), "the copy by the older name is there still")
         copy.unlink()
         session.write()
-        expect_line(session.told(), rf"not written: no/where/: No such file or directory; its text is in {copy}")
+        expect_line(session.told(), line)
         session.terminal.new_file()
         session.settle()
         tag = session.terminal.current

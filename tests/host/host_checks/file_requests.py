@@ -1,6 +1,7 @@
 """Files that join a session that stays, and the names of those that might."""
 import os
 import re
+import signal
 import subprocess
 
 import sulgrevad
@@ -271,6 +272,34 @@ def check_join_wished(folder):
         ended = session.run("--open", "a.txt")
         wanted = (7, "samhost: there is no session in which a.txt can be shown\n")
         expect_equal((ended.returncode, ended.stderr), wanted, "what comes where there is none")
+
+
+def check_join_wished_of_one_that_has_ended(folder):
+    """A session whose terminal has left, and may not have heard of the end, is told to have ended: nobody would see the file."""
+    made(folder, a="one\n", b="other\n")
+    with Staying(folder, "a.txt") as session:
+        session.terminal.exit()
+        session.carry(lambda: session.of("ENDED"), "it doesn't say that it ends")
+        ended = session.run("--open", "--wait", "--session", session.name, "b.txt")
+        expect_equal((ended.returncode, ended.stderr), (1, "samhost: b.txt: the session has ended\n"), "what comes of --open")
+        session.wait_for_end(0)
+
+
+def check_join_wished_of_one_that_is_stopped(folder):
+    """A file that --open has told as not shown, since samhost was stopped, is not shown once that goes on."""
+    made(folder, a="one\n", b="other\n")
+    with Staying(folder, "a.txt") as session:
+        pid, words = pid_of(folder, session.name), ("--open", "--session", session.name)
+        os.kill(pid, signal.SIGSTOP)
+        try:
+            ended = session.run(*words, "b.txt")
+        finally:
+            os.kill(pid, signal.SIGCONT)
+        expect_equal((ended.returncode, ended.stderr), (1, "samhost: b.txt: Connection timed out\n"), "what comes of --open")
+        expect_equal(session.run(*words, "a.txt").returncode, 0, "the status of the next one")
+        session.carry(lambda: session.of("SHOWN"), "it isn't to be shown")
+        expect_equal([message.tag for message in session.of("SHOWN")], [1], "the files that are to be shown")
+        session.leave()
 
 
 def check_join_wished_in_one_of_several(folder):

@@ -60,4 +60,4 @@ def check_closed_folder(folder):
     (folder / "d/open/b").chmod(0)
     with Session(folder, "d", prefix=prefix) as session:
         expect_equal(names_of(session), ["d/open/a"], "the names")
-        expect_equal(session.told(), ["samhost: d/closed/: Permission denied", f"samhost: d: 1 {LEFT_OUT}"], "what it says")
+        expect_equal(session.told(), ["samhost: d/closed: Permission denied", f"samhost: d: 1 {LEFT_OUT}"], "what it says")

@@ -95,7 +95,7 @@ def check_journal_on_a_full_disk(folder):
                 session.type(f"{number:60}\n")
             expect(losses(session)[0].startswith("the journal can't be written: No space left on device"), f"it tells {session.messages}")
             session.let_pass(4)
-            expect_equal(names_in(home_of(folder, session.name)), ["lock", "name", "socket"], "what is in its folder")
+            expect_equal(names_in(home_of(folder, session.name)), ["journal.unfinished", "lock", "name", "socket"], "what is in its folder")
             filler.unlink()
             is_begun_anew(session)
             expect_goes_on(folder, session, text)
@@ -110,6 +110,20 @@ def check_journal_that_never_began(folder):
     with Staying(folder, "a.txt", prefix=words) as session:
         is_begun_anew(session)
         expect_equal(len(losses(session)), 1, f"how often it says so, in {session.messages}: it")
+        session.type("two\n")
+        expect_goes_on(folder, session, "one\ntwo\n")
+
+
+def check_journal_that_the_first_terminal_begins(folder):
+    """So it does where that comes of the first connection: the terminal hears that the journal is written again."""
+    made(folder, a="one\n")
+    log = folder / "temporary" / "log"
+    words = ("strace", "-f", "-qq", "-o", log, "-e", "trace=writev", "-e", "inject=writev:error=ENOSPC:when=1")  # of each process
+    with Staying(folder, "a.txt", prefix=words, begin=False) as session:
+        wait_until(lambda: log.exists() and log.read_text().count("INJECTED") == 2, "the journal is not tried once more")
+        session.begin()
+        is_begun_anew(session)
+        expect_equal(len(losses(session)), 1, f"how often it says that it can't be, in {session.messages}: it")
         session.type("two\n")
         expect_goes_on(folder, session, "one\ntwo\n")
 
@@ -271,22 +285,90 @@ def check_journal_stays_at_a_signal_without_room(folder):
         session.leave()
 
 
+def full_and_killed(folder, session, full):
+    """Has the disk be full, and samhost be killed then. Returns once it is gone."""
+    full.write_text("")
+    session.type("three\n")
+    session.carry(lambda: losses(session), "it isn't told")
+    expect(not (folder / "a.txt.sam-saved").exists(), "this test is late: the text is saved")
+    kill(folder, session)
+    full.unlink()
+
+
+def check_journal_keeps_what_it_has_without_room(folder):
+    """What a journal had on the disk before that was full is not lost where samhost is killed then: --end, or the next connection, saves it
+    aside, and says that what came later may be missing."""
+    for way in ("--end", "--attach"):
+        place = folder / way.strip("-")
+        place.mkdir()
+        words, full = on_full_disk(place)
+        with typed(place, prefix=("env", *map("=".join, words.items()))) as session:
+            full_and_killed(place, session, full)
+            line = f"{session.name}  its samhost is gone, and --end saves what its journal has  a.txt, in {place}"
+            expect(line in session.run("--list").stdout.splitlines(), f"the list is {session.run('--list').stdout!r}")
+            session.drop()
+            if way == "--end":
+                ended = session.run("--end", session.name)
+                status, said = ended.returncode, ended.stderr
+            else:
+                session.start("--attach", session.name)
+                expect_equal(session.refusal(), What.NO_SESSION, "what the terminal hears")
+                status, said = session.wait(), session.process.stderr.read().decode()
+            why = "its journal could not be written to its end, so of what came then only the copies are known that it has saved"
+            wanted = f"samhost: session {session.name} can't go on: {why}\nsamhost: a.txt was not written; its text is in a.txt.sam-saved\n"
+            expect_equal((status, said), (1 if way == "--end" else 7, wanted), f"{way}: the status, and what it says")
+            expect_gone(place, session)
+        expect_equal(text_of(place / "a.txt.sam-saved"), "one\ntwo\n", f"{way}: the copy")
+
+
+def check_journal_keeps_what_it_has_through_a_takeover_without_room(folder):
+    """So it is where another terminal takes the session over on a full disk, whose journal can't begin then."""
+    words, full = on_full_disk(folder)
+    with typed(folder, prefix=("env", *map("=".join, words.items()))) as old:
+        old.drop()
+        full.write_text("")
+        with Staying(folder, takes=old.name) as new:
+            new.carry(lambda: losses(new), "it isn't told")
+            expect(not (folder / "a.txt.sam-saved").exists(), "this test is late: the text is saved")
+            kill(folder, new)
+            full.unlink()
+            new.abandon()
+            expect_equal(new.run("--end", new.name).returncode, 1, "the status of --end")
+            expect_gone(folder, new)
+    expect_equal(text_of(folder / "a.txt.sam-saved"), "one\ntwo\n", "the copy")
+
+
+def check_journal_keeps_what_it_has_at_a_signal_without_room(folder):
+    """So it is where a signal ends samhost while its disk is full, and has been for a while."""
+    words, full = on_full_disk(folder)
+    with typed(folder, prefix=("env", *map("=".join, words.items()))) as session:
+        pid = pid_of(folder, session.name)
+        full.write_text("")
+        session.type("three\n")
+        session.carry(lambda: losses(session), "it isn't told")
+        os.kill(pid, signal.SIGTERM)
+        wait_until(lambda: not is_running(pid), "it doesn't go")
+        session.abandon()
+        full.unlink()
+        expect(not (folder / "a.txt.sam-saved").exists(), "this test is late: the text is saved")
+        expect_equal(session.run("--end", session.name).returncode, 1, "the status of --end")
+        expect_gone(folder, session)
+    expect_equal(text_of(folder / "a.txt.sam-saved"), "one\ntwo\n", "the copy")
+
+
 def check_stays_without_a_journal_after_a_kill(folder):
-    """A session whose journal could not be written, and whose samhost was killed then, is not left out: --list and --end say what there is
-    of it, --take without a name takes the other one, and the terminal hears why it is refused. Its folder goes with that, or after three
-    days."""
+    """A session whose journal could not begin, and whose samhost was killed then, is not left out: --list and --end say what there is of it,
+    --take without a name takes the other one, and the terminal hears why it is refused. Its folder goes with that, or after three days."""
     for way in ("--end", "--attach", "days"):
         place = folder / way.strip("-")
         place.mkdir()
         made(place, a="one\n", b="other\n")
-        with Staying(place, "a.txt") as lost, Staying(place, "b.txt") as other:
-            pid = pid_of(place, lost.name)
-            with with_calls(pid, "inject=writev:error=ENOSPC"):
-                lost.type("two\n")
-                wait_until(lambda: not (home_of(place, lost.name) / "journal").exists(), "the journal can be written")
-                lost.drop()
-                os.kill(pid, signal.SIGKILL)
-                wait_until(lambda: not is_running(pid), "it still runs")
+        failing = ("strace", "-f", "-qq", "-o", "/dev/null", "-e", "inject=writev:error=ENOSPC")
+        with Staying(place, "a.txt", prefix=failing) as lost, Staying(place, "b.txt") as other:
+            lost.type("two\n")
+            expect(not (home_of(place, lost.name) / "journal").exists(), "the journal can be written")
+            kill(place, lost)
+            lost.abandon()
             said = f"session {lost.name} has no journal, so of its texts nothing is known but the copies that it has saved"
             line = f"{lost.name}  its samhost is gone, and there is no journal  a.txt, in {place}"
             expect(line in lost.run("--list").stdout.splitlines(), f"{way}: the list is {lost.run('--list').stdout!r}")

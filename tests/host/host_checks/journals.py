@@ -21,9 +21,10 @@ from .support import IDLE, LATE, SAMHOST, expect_equal, made, names_in, text_of
 
 HEAD = 24  # bytes of a journal before its first record
 FRONT, BACK = 24, 4  # bytes of a record before its body, and behind it
-FORM_AND_SUM = (6, "4cf369473e854b25")  # of the records, and of the code that makes and reads them
+FORM_AND_SUM = (8, "dbf271726ef1da65")  # of the records, and of the code that makes and reads them
 FORM_END = 1 + 8  # where form and version end in the body of the first record
-START, SERVER, BEGUN, KNOWN, CUT, WANTED, ANSWERED, HELD, FREED, ENDED = 1, *range(32, 41)  # kinds of entries of a record
+START, SERVER, BEGUN, KNOWN, ENDED = 1, *range(32, 36)  # kinds of entries of a record
+CUT = "cut"  # what is known of the command file: the copy of what was cut last
 FILE, HELLO, UP, SAID, DONE, MARKED = ("file", "hello", "up", "said", "done", "marked")  # kinds of records of the server
 SERVERS = {1: FILE, 2: HELLO, 3: UP, 4: SAID, 7: DONE, 8: MARKED}
 SYNCED = "synced"  # a record that says how much is on the disk
@@ -38,10 +39,10 @@ def kill(folder, session):
 
 
 @contextlib.contextmanager
-def typed(folder):
-    """A session on a.txt, which has "one", into which "two" was typed."""
+def typed(folder, prefix=()):
+    """A session on a.txt, which has "one", into which "two" was typed. The words of `prefix` begin it."""
     made(folder, a="one\n")
-    with Staying(folder, "a.txt") as session:
+    with Staying(folder, "a.txt", prefix=prefix) as session:
         session.type("two\n")
         yield session
 
@@ -68,6 +69,8 @@ def kinds_in(body):
         length = struct.unpack(">Q", body[at + 1 : at + 9])[0]
         if kind == SERVER:
             kinds.add(SERVERS.get(body[at + 9]))
+        if kind == KNOWN and body[at + 9 : at + 17] == bytes(8):
+            kinds.add(CUT)
         at += 9 + length
     return kinds
 
@@ -254,6 +257,25 @@ def check_journal_of_a_close_killed_at_each_step(folder):
             session.leave()
 
 
+def check_journal_of_a_write_in_place_killed_in_it(folder):
+    """A samhost that is killed amid a write in place: the next one says that the write may have broken off, and where what the file was is.
+    The next write replaces what it has."""
+    (path,) = made(folder, a="one\ntwo\n")
+    os.link(path, folder / "b.txt")
+    with Staying(folder, "a.txt") as session:
+        with with_calls(pid_of(folder, session.name), "inject=ftruncate:signal=KILL:when=2"):  # the first is of what the file was
+            session.terminal.edit(1, 0, 8, "1\n")
+            session.terminal.write(1)
+            session.settle()
+        expect_equal(text_of(path), "1\ne\ntwo\n", "the file that was broken off")
+        said = [said for said in session.said() if "or a write that broke off, and .sam-old beside it has what it was" in said]
+        expect(len(said) == 1 and said[0].startswith("not written: a.txt: "), f"it says {session.said()}")
+        expect_equal(text_of(folder / "a.txt.sam-old"), "one\ntwo\n", "what the file was")
+        session.write()
+        expect_equal(text_of(path), "1\n", "the file")
+        session.leave()
+
+
 def check_journal_torn(folder):
     """A journal that is torn at any of its last bytes goes on from its last whole record; a terminal that has more is refused by name."""
     for cut in range(1, 40):
@@ -399,7 +421,7 @@ def check_form_of_records(folder):
     """The code that decides what records say is that of the form whose number they have. Where it changes so that another samhost would read
     them otherwise, RECORDS_FORM grows; and FORM_AND_SUM in each case."""
     code = (ROOT / "editor/host/journal/journal_records.c").read_text()
-    functions = re.findall(r"^(?:static )?[^\n;{}]*\b(?:add|take|record|set)_\w+\([^;{}]*\)\n\{.*?^\}", code, re.MULTILINE | re.DOTALL)
+    functions = re.findall(r"^(?:static )?[^\n;{}]*\b(?:add|take|record|set|pass)_\w+\([^;{}]*\)\n\{.*?^\}", code, re.MULTILINE | re.DOTALL)
     expect(len(functions) > 10, f"there are {len(functions)} functions")
     form = int(re.search(r"#define RECORDS_FORM (\d+)", (ROOT / "editor/host/journal/journal_records.h").read_text())[1])
     expect_equal((form, hashlib.sha256("\n".join(functions).encode()).hexdigest()[:16]), FORM_AND_SUM, "form and sum")
@@ -526,7 +548,7 @@ def check_journal_before_acknowledgements(folder):
             session.type("three\n")
             tracer.terminate()
         forms = {
-            r"writev\(\d+, \[\{iov_base=\"(\\x..){24}\", iov_len=24\}, \{iov_base=\"\\x20(\\x..){8}\\x03": "up",
+            r"writev\(\d+, \[\{iov_base=\"(\\x..){24}\\x20(\\x..){8}\\x03": "up",
             r"fdatasync\(": "on disk",
             r"sendto\(.*\\x03\\x00\\x08": "acknowledged",
         }

@@ -107,7 +107,7 @@ class Staying:
         self.terminal.free()
 
     def run(self, *words):
-        return subprocess.run([SAMHOST, *words], cwd=self.folder, env=self.environment, capture_output=True, text=True, timeout=100)
+        return subprocess.run([SAMHOST, *words], cwd=self.folder, env=self.environment, capture_output=True, text=True, timeout=GIVEN_UP)
 
     # Lines
 

@@ -55,10 +55,10 @@ class End:
     """One connection of a terminal to a session."""
 
     def __init__(self, folder, what, *words):
-        pipe, own = subprocess.PIPE, {"XDG_STATE_HOME": str(folder / "state"), "TMPDIR": str(folder)}
+        pipe, self.environment = subprocess.PIPE, {**os.environ, "XDG_STATE_HOME": str(folder / "state"), "TMPDIR": str(folder)}
         self.id, self.came, self.core, self.messages = os.urandom(16), 0, b"", []
         words = [word.replace("NAME", self.id[:8].hex()) for word in words]
-        self.process = subprocess.Popen([SAMHOST, *words], cwd=folder, stdin=pipe, stdout=pipe, bufsize=0, env={**os.environ, **own})
+        self.process = subprocess.Popen([SAMHOST, *words], cwd=folder, stdin=pipe, stdout=pipe, bufsize=0, env=self.environment)
         self.send(MARK + bytes([1, what]) + self.id + struct.pack(">QQ", 1, 0))
         hello = self.take(42)
         expect(hello[:10] == MARK + bytes([1, WELCOME]) and hello[10:26] == self.id, f"the host says {hello.hex()}")
@@ -180,3 +180,5 @@ def check_second_end(folder):
             second.ask(EXIT, b"", EXITED)
             expect_equal(second.message(ENDED)["n"], 0, "the status at the end")
             second.put(ACKNOWLEDGEMENT, struct.pack(">Q", second.came))
+            ending = subprocess.run([SAMHOST, "--end", second.id[:8].hex()], cwd=folder, env=second.environment, stderr=subprocess.DEVNULL)
+            expect(ending.returncode in (0, 7), f"the status of --end is {ending.returncode}")  # it may be gone: all was acknowledged

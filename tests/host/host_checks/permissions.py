@@ -63,7 +63,7 @@ def check_guarded_from_the_first_moment(folder):
         os.umask(before)
     wrong, names = made_for_all(calls_of(log), room)
     expect_equal(wrong, [], "what others could have reached")
-    wanted = {"sulgrevad", session.name, "lock", "journal", "journal.new", "name", "before", "socket"}
+    wanted = {"sulgrevad", session.name, "lock", "journal.new", "name", "before", "socket"}
     expect(wanted <= names, f"this test is wrong: it sees no making of {wanted - names}, but of {names}")
     files = [line for line in log.read_text().splitlines() if re.search(FOLDER_OF_FILES, line)]
     followed = [line for line in files if "O_NOFOLLOW" not in line or "O_CLOEXEC" not in line]

@@ -9,7 +9,7 @@ import subprocess
 import sulgrevad
 from checks import GIVEN_UP, expect, times_slower, wait_until
 
-from .journals import DONE, HELLO, UP, kill, records_of
+from .journals import DONE, HEAD, HELLO, UP, kill, records_of
 from .line import Staying, home_of, traced
 from .support import SAMHOST, expect_equal, made, text_of
 
@@ -159,11 +159,11 @@ def check_power_cut_that_leaves_zeros(folder):
 
 def synced(log, size):
     """How many bytes of a journal are on the disk that had so many at first, and how often it was synced, as the calls say."""
-    on_disk, syncs, is_fresh = 0, 0, False
+    on_disk, syncs = 0, 0
     calls = r"^\d+ +(writev|fdatasync)\(\d+<[^>]*/journal(\.new)?>.* = (\d+)$"
     for call, fresh, count in re.findall(calls, log.read_text(), re.MULTILINE):
-        if fresh and not is_fresh:  # another one begins, which will have its name
-            size, is_fresh = 0, True
+        if fresh and call == "writev" and int(count) == HEAD:  # another one begins, which will have its name
+            size = 0
         if call == "writev":
             size += int(count)
         else:

@@ -68,10 +68,9 @@ class PowerCuts:
         """What the disk has of a journal: all up to the last sync, and of what came since some blocks, and some length."""
         size, synced = len(self.disk), None
         calls = self.log.read_text() if self.log.exists() else ""
-        is_fresh = False
         for call, fresh, rest, result in re.findall(r"^\d+ +(\w+)\(\d+<[^>]*/journal(\.new)?>(.*) = (\d+)$", calls, re.MULTILINE):
-            if fresh and not is_fresh:  # another one begins, which will have its name
-                size, is_fresh = 0, True
+            if fresh and call == "writev" and int(result) == HEAD:  # another one begins, which will have its name
+                size = 0
             if call == "writev":
                 size += int(result)
             elif call == "ftruncate":

@@ -145,6 +145,29 @@ def check_stays_until_nobody_comes_back(folder):
         late.leave()
 
 
+def check_stays_after_idle_days_with_its_terminal(folder):
+    """A session whose terminal was there, but idle for longer than it may be alone, goes on after a reboot: a new session doesn't end it."""
+    made(folder, c="third\n")
+    with typed(folder) as session:
+        journal, when = home_of(folder, session.name) / "journal", time.time() - 73 * 3600
+
+        def is_renewed_alone():
+            size = journal.stat().st_size
+            os.utime(journal, (when, when))
+            wait_until(lambda: journal.stat().st_mtime > when + 3600, "the journal says that nobody was there")
+            return journal.stat().st_size == size
+
+        wait_until(is_renewed_alone, "each time something is added to the journal, too")
+        kill(folder, session)
+        session.drop()
+        with Staying(folder, "c.txt") as new:
+            new.type("four\n")
+            new.leave()
+        session.type("three\n")
+        expect_equal(session.text(), "one\ntwo\nthree\n", "the text")
+        session.leave()
+
+
 def check_stays_until_it_is_ended(folder):
     """--end ends a session that has a terminal, which hears of it."""
     with typed(folder) as session:
@@ -155,6 +178,31 @@ def check_stays_until_it_is_ended(folder):
             expect_equal((ending.wait(GIVEN_UP), *ending.communicate()), (0, b"", b""), "what comes of --end")
         expect_gone(folder, session)
         expect("a.txt was not written; its text is in a.txt.sam-saved" in session.said(), f"it doesn't say where: {session.said()}")
+
+
+def copies_of(folder, session):
+    """Waits until a text and what was cut are saved aside, and the journal says so. Answers the two copies."""
+    copies = folder / "a.txt.sam-saved", folder / "cut.sam-saved"
+    wait_until(lambda: all(copy.exists() for copy in copies), "there are no copies", IDLE + LATE)
+    journal = home_of(folder, session.name) / "journal"
+    wait_until(lambda: CUT in kinds_of(journal.read_bytes()), "the journal doesn't have the copies")
+    return copies
+
+
+def check_stays_ended_after_its_copies_were_removed(folder):
+    """--end saves what is not written, also where somebody has removed its copies, as by a clean-up of a folder."""
+    made(folder, a="one two\n")
+    with Staying(folder, "a.txt", options=("--left",)) as session:
+        session.terminal.select(1, 0, 4)
+        session.terminal.cut(1)
+        session.type("three\n")
+        copies = copies_of(folder, session)
+        session.drop()
+        for copy in copies:
+            copy.unlink()
+        expect_equal(session.run("--end", session.name).returncode, 0, "the status of --end")
+        expect_gone(folder, session)
+    expect_equal([text_of(copy) for copy in copies], ["two\nthree\n", "one "], "the copies")
 
 
 def check_stays_ended_while_it_begins(folder):
@@ -280,10 +328,7 @@ def check_stays_ended_though_its_copies_are_gone(folder):
             session.terminal.select(1, 0, 3)
             session.terminal.cut(1)
             session.type("two\n")
-            copies = place / "a.txt.sam-saved", place / "cut.sam-saved"
-            wait_until(lambda: all(copy.exists() for copy in copies), "there are no copies", IDLE + LATE)
-            journal = home_of(place, session.name) / "journal"
-            wait_until(lambda: CUT in kinds_of(journal.read_bytes()), "the journal doesn't have the copies")
+            copies = copies_of(place, session)
             kill(place, session)
             session.drop()
             for copy in copies:

@@ -17,7 +17,7 @@ from link_model import HELLO_BYTES, Link
 SAMHOST = Path(os.environ["SAMHOST"])  # a copy that every user can reach
 IDLE = 2.0  # seconds of quiet after which the host saves changed texts aside
 LONGEST_UNSAVED = 10.0  # seconds after which it does while messages still come
-LATE = 3.0  # seconds that a busy machine may add
+LATE = 6.0  # seconds that a busy machine may add
 NOBODY = 65534
 IS_ROOT = os.geteuid() == 0
 VERSION, REQUEST, OPEN, CUT, WRITE, CLOSE, EXIT = 1, 4, 6, 9, 13, 14, 22  # kinds of the terminal's messages

@@ -195,6 +195,27 @@ def check_taken_and_closed_at_once(folder):
     expect_equal(text_of(folder / "a.txt.sam-saved"), "one\ntwo\n", "the copy")
 
 
+def check_taken_with_a_closed_text(folder):
+    """A text that could not be saved as its file was closed is there again for the terminal that takes the session over, as not written, also
+    where samhost is killed then; and goes into its file."""
+    made(folder, a="one\n", b="other\n")
+    with Staying(folder, "a.txt", "b.txt") as old:
+        with with_calls(pid_of(folder, old.name), "inject=pwrite64:error=ENOSPC"):
+            old.type("two\n")
+            old.terminal.close(1)
+            old.settle()
+            expect(old.of("ASIDE", tag=1, code=sulgrevad.NoteCode.NO_SPACE, path=b"a.txt"), f"it tells {old.messages}")
+            old.drop()
+            new = Staying(folder, takes=old.name)
+            expect_equal((new.text(), new.terminal.is_changed(1)), ("one\ntwo\n", True), "the text, and whether it is changed")
+            kill(folder, new)
+        with new:
+            new.type("three\n")
+            new.write()
+            expect_equal(text_of(folder / "a.txt"), "one\ntwo\nthree\n", "the file")
+            new.leave()
+
+
 def alone(folder, old):
     """Has a terminal go, and waits until its session has nothing left to do."""
     old.type("two\n")
@@ -209,22 +230,22 @@ def alone(folder, old):
 def check_taken_where_the_new_journal_is_lost(folder):
     """Where the new session's journal can't be on the disk no journal is left: one that nobody writes would bring an older text back. The
     terminal is told, and the journal is begun anew once it can be."""
-    for error, when in (("EIO", 1), ("EIO", 2), ("ENOSPC", 2)):
-        place = folder / f"{error}{when}"
+    for call, error, when in (("fdatasync", "EIO", "1+"), ("fdatasync", "EIO", "2+"), ("fdatasync", "ENOSPC", "2+"), ("fsync", "EIO", "4+")):
+        place = folder / f"{call}{error}{when}"
         place.mkdir()
         made(place, a="one\n")
         with Staying(place, "a.txt") as old, contextlib.ExitStack() as stack:
-            with with_calls(alone(place, old), f"inject=fdatasync:error={error}:when={when}+"):
+            with with_calls(alone(place, old), f"inject={call}:error={error}:when={when}"):  # the fourth fsync is of its name
                 new = stack.enter_context(Staying(place, takes=old.name))
                 new.type("three\n")
                 new.carry(lambda: new.of("NO_JOURNAL"), "it isn't told")
                 told = [it.text for it in new.of("NO_JOURNAL") if it.text.startswith("the journal can't be written: ")]
                 expect_equal(len(told), 1, f"how often it says so, in {new.messages}: it")
                 new.let_pass(1.5)  # it is tried meanwhile
-                expect(not (home_of(place, new.name) / "journal").exists(), f"{error} at the sync {when}: a journal is there")
+                expect(not (home_of(place, new.name) / "journal").exists(), f"{call}, {error} at {when}: a journal is there")
             new.carry(lambda: AGAIN in new.said(), "it isn't begun anew")
             kill(place, new)
-            expect_equal(new.text(), "one\ntwo\nthree\n", f"{error} at the sync {when}: the text")
+            expect_equal(new.text(), "one\ntwo\nthree\n", f"{call}, {error} at {when}: the text")
             new.leave()
 
 

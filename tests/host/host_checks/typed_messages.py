@@ -30,7 +30,7 @@ def answers(session):
 
 
 def check_typed_answer_of_each_write(folder):
-    """Each write has one answer, in order: the n-th that is asked for by a number has that, the others 0."""
+    """Each write has one answer: that of a Write which came before it, the later one of two, and else 0."""
     first, second = made(folder, a="one\n", b="other\n")
     with Staying(folder, "a.txt", "b.txt") as session:
         session.type("two\n")
@@ -39,11 +39,10 @@ def check_typed_answer_of_each_write(folder):
         second.write_text("another program's\n")
         session.type("three\n", 2)
         asked_to_write(session, 8, 2)
-        for request in (10, 11, 12):
-            session.put_note("WRITE", request=request, tag=2 if request == 11 else 1)
-        for tag in (1, 2, 1, 1):
-            session.terminal.write(tag)
-            session.settle()
+        session.put_note("WRITE", request=9, tag=1)
+        for request, tag in ((10, 1), (11, 2), (12, 1)):
+            asked_to_write(session, request, tag)
+        session.write()
         wanted = [("SAVED", 1, 0), ("SAVED", 1, 7), ("NOT_SAVED", 2, 8)]
         wanted += [("SAVED", 1, 10), ("SAVED", 2, 11), ("SAVED", 1, 12), ("SAVED", 1, 0)]
         expect_equal(answers(session), wanted, "the answers")

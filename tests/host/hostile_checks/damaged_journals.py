@@ -76,11 +76,11 @@ def check_damaged_in_the_front_or_the_middle(folder):
 
 def check_damaged_says_it_to_terminals(folder):
     """--attach and --take of such a session refuse the terminal, say why, and keep the journal; --list and --end have it still. A second
-    one is kept beside the first."""
+    one stays where it is."""
     killed = Killed(folder)
     journal = killed.flipped(killed.records[len(killed.records) // 2][0] + 6)
     for number, words in enumerate((["--attach", killed.name], ["--take"])):
-        name = "journal.wrong" if number == 0 else "journal.wrong.2"
+        name = "journal.wrong" if number == 0 else "journal"
         if number == 0:
             killed.restore(journal)
         else:
@@ -89,7 +89,9 @@ def check_damaged_says_it_to_terminals(folder):
         expect_equal((ended.returncode, ended.stdout[8:10]), (7, bytes([1, What.NO_SESSION])), f"{words}: the status, and the answer")
         expect(b"its journal is damaged" in ended.stderr, f"{words}: it says {ended.stderr!r}")
         expect_equal((killed.home / name).read_bytes(), journal, f"{words}: the journal that is kept")
-        expect(str(killed.home / name).encode() in ended.stderr, f"{words}: it says {ended.stderr!r}")
+        where = f"is kept as {killed.home / name}" if number == 0 else "stays where it is: File exists"
+        expect(where.encode() in ended.stderr, f"{words}: it says {ended.stderr!r}")
+    (killed.home / "journal").unlink()
     again = killed.run("--attach", killed.name)
     expect_equal((again.returncode, again.stdout[8:10]), (7, bytes([1, What.NO_SESSION])), "what comes of another --attach")
     expect("its journal is wrong, and kept in " in killed.run("--list").stdout.decode(), "the list doesn't have it")
@@ -135,7 +137,6 @@ def check_damaged_behind_the_last_sync(folder):
         session.abandon()
         session.type("three\n")
         expect_equal(session.text(), "one\ntwo\nthree\n", "the text")
-        expect_equal((home_of(folder, session.name) / "journal.torn").read_bytes(), bytes(len(lost)) + whole, "what is cut off")
         session.leave()
 
 
@@ -161,58 +162,37 @@ def check_damaged_at_many_places(folder):
         expect_equal((killed.home / kept).read_bytes(), killed.flipped(place), f"byte {place}: the journal that is kept")
 
 
-def check_damaged_tail_is_kept(folder):
-    """What is cut off a torn end stays beside the journal, whose cut is on the disk before anything else."""
+def check_damaged_tail_without_room(folder):
+    """A torn end is cut off, which is on the disk before anything else, also where there is no room for more."""
     if shutil.which("strace") is None:
         raise Skipped("no strace")
     killed = Killed(folder)
-    at = killed.records[-1][0]
     killed.restore(killed.journal[:-2])
     log = folder / "calls"
-    words = ("strace", "-qq", "-y", "-f", "-o", log, "-e", "trace=ftruncate,fdatasync,fsync,writev,openat")
+    words = ("strace", "-qq", "-y", "-f", "-o", log, "-e", "trace=ftruncate,fdatasync,fsync,writev", "-e", "inject=writev:error=ENOSPC")
     with subprocess.Popen(
         [*words, SAMHOST, "--attach", killed.name], cwd=folder, env=killed.environment, stdin=subprocess.PIPE, stdout=subprocess.PIPE,
         stderr=subprocess.PIPE,
     ) as relay:  # fmt: skip
         relay.stdin.close()
         wait_until(lambda: (killed.home / "socket").exists(), "the session doesn't go on")
-        torn = (killed.home / "journal.torn").read_bytes()
-        expect_equal(killed.run("--end", killed.name).returncode, 0, "the status of --end")
+        ended = killed.run("--end", killed.name)
+        expect_equal(ended.returncode, 0, f"after {ended.stderr!r} the status of --end")
         relay.wait(GIVEN_UP)
-    expect_equal(torn, killed.journal[at:-2], "what is kept of the end")
-    calls = [line.split(None, 1)[1].partition("(") for line in log.read_text().splitlines()]
-    on = [(name, "torn" if "journal.torn>" in rest else "journal") for name, _, rest in calls if "/journal" in rest and name != "openat"]
-    start = on.index(("writev", "torn"))
-    wanted = [("writev", "torn"), ("fsync", "torn"), ("ftruncate", "journal"), ("fdatasync", "journal")]
-    expect_equal(on[start : start + 4], wanted, "what is done to the journal and to its end")
-
-
-def check_damaged_tail_without_room(folder):
-    """Where there is no room for what is cut off, the journal stays as it is, and the session can be ended later."""
-    if shutil.which("strace") is None:
-        raise Skipped("no strace")
-    killed = Killed(folder)
-    killed.restore(killed.journal[:-2])
-    words = ("strace", "-qq", "-f", "-o", "/dev/null", "-e", "inject=writev:error=ENOSPC")
-    ended = killed.run("--end", killed.name, prefix=words)
-    expect_equal(ended.returncode, 1, f"after {ended.stderr!r} the status")
-    expect_equal((killed.home / "journal").read_bytes(), killed.journal[:-2], "the journal")
-    ended = killed.run("--end", killed.name)
-    expect_equal(ended.returncode, 0, f"after {ended.stderr!r} the status of another --end")
-    expect(b"its text is in a.txt.sam-saved" in ended.stderr, f"it says {ended.stderr!r}")
+    calls = [line.split(None, 1)[1].partition("(")[0] for line in log.read_text().splitlines() if "/journal" in line]
+    expect_equal(calls[:2], ["ftruncate", "fdatasync"], "what is done to the journal")
+    expect((folder / "a.txt.sam-saved").exists(), "its text is lost")
 
 
 def check_damaged_to_nothing(folder):
-    """A journal that lacks its head is told as damaged, and kept; one that has no more than that had not begun, and goes."""
+    """A journal that lacks its head, or has no more than that, is told as damaged, and kept: a new one gets its name once it has its begin."""
     killed = Killed(folder)
     for size in (0, 10, HEAD):
         killed.restore(killed.journal[:size])
         ended = killed.run("--end", killed.name)
-        is_kept = size < HEAD
-        expect_equal(ended.returncode, int(is_kept), f"{size} bytes: after {ended.stderr!r} the status")
-        found = b"its journal is damaged" in ended.stderr, (killed.home / "journal.wrong").exists()
-        expect_equal(found, (is_kept, is_kept), f"{size} bytes: whether it is told, and kept")
-        expect_equal(killed.home.exists(), is_kept, f"{size} bytes: whether the folder stays")
+        expect_equal(ended.returncode, 1, f"{size} bytes: after {ended.stderr!r} the status")
+        expect(b"its journal is damaged" in ended.stderr, f"{size} bytes: it says {ended.stderr!r}")
+        expect((killed.home / "journal.wrong").exists(), f"{size} bytes: the journal is gone")
 
 
 def check_damaged_lengths_cost_little(folder):
