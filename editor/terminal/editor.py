@@ -68,8 +68,9 @@ class Editor(WindowLayout, KeyQueue, Actions):
         self.colours = Colours(self.name, tell=lambda line: self.notes.keep(1, line))
         terminal.told, terminal.settled = told, {Kind.HUNLOCK: self._meet_unlock, Kind.HSETSNARF: self.meet_snarf}
         terminal.give_back, terminal.refuse, terminal.forget_changes = self._take_back, self._tell_refusal, self._forget_changes
-        hear = self.log.hear, self.numbers.hear, self.keeping.hear_changes, self.hear_changes, self.hear_pasting, self.colours.hear
-        self.texts.listeners, self.texts.host_listeners = [*hear], [self.hear_run]
+        hear = self.log.hear, self.numbers.hear, self.hear_changes, self.hear_pasting, self.colours.hear
+        self.texts.listeners = [*hear, lambda changes: self.keeping.note_change(changes.tag, len(changes))]
+        self.texts.host_listeners = [self.hear_run]
         self.pointer, self.menu, self.help = Pointer(self), None, None  # the help lies over all else
         self.is_lost = self.is_leaving = self.is_over = self.has_begun = False
         self.leaves_alone = False  # the user leaves, and the host has not answered that
@@ -156,6 +157,7 @@ class Editor(WindowLayout, KeyQueue, Actions):
             self.message = f"{self.name(tag)} is not open: that can be done when the line is back"
             return False
         if not window.is_open and not self.is_lost:
+            self.left.look_at(tag)
             self.terminal.open(tag)
         self.put_up(window, replaces)
         return True
@@ -287,7 +289,7 @@ class Editor(WindowLayout, KeyQueue, Actions):
         if self._shown_at is None and self.active.is_open and not self.is_lock_held:
             self._shown_at = self.clock()
         is_time = not self._is_command_asked_for and self.rests and self.idle_for >= COMMAND_AFTER
-        if is_time and self.way.has_all and not self.is_lock_held:  # a host that doesn't answer would lock all by it
+        if is_time and self.way.line.has_all and not self.is_lock_held:  # a host that doesn't answer would lock all by it
             self.has_command_file()
         self.slices.go_on()
         to_command = COMMAND_AFTER - self.idle_for if self.has_shown and not self._is_command_asked_for else None
@@ -298,14 +300,14 @@ class Editor(WindowLayout, KeyQueue, Actions):
         if self.is_lost:
             return
         self.is_lost = self.texts.is_final = True
-        self.kept_here = self.keeping.keep_here(self.way.has_all)
+        self.kept_here = self.keeping.keep_here(self.way.line.has_all)
         self.go_to(self.shown_focus)
         self.deferred.clear()
         self.message = ""
         self.notes.forget_the_line()
         for line in self.kept_here or [f"what is loaded can still be read. {self.keys.of('leave')} leaves"]:
             self.notes.keep(2, f"{why}; {line}")
-        if self.keeping.has_failed:
+        if self.keeping.failed:
             self.notes.keep(2, f"{self.keys.of('leave')} tries again to write here what could not be written: make room first")
 
     def _meet_files(self) -> None:
@@ -368,7 +370,7 @@ class Editor(WindowLayout, KeyQueue, Actions):
         elif self.is_lost:
             self.update_windows()
         is_time = self._leaves_at is not None and now >= self._leaves_at
-        goes = is_time or (self.is_leaving and self.way.silence >= SECONDS_TO_END)
+        goes = is_time or (self.is_leaving and self.way.line.silence >= SECONDS_TO_END)
         self.leaves_alone = goes and not self.is_lost and not self.terminal.exited
         self.is_over = self.is_over or self.terminal.exited or goes
 
@@ -463,8 +465,8 @@ class Editor(WindowLayout, KeyQueue, Actions):
         return self._is_again
 
     def act_again(self, why: str) -> None:
-        """The key that acts now does so again, once the host has answered."""
-        if self.is_lock_held and not self.is_lost:
+        """The key that acts now does so again, once the host has answered, or answers again after a short break."""
+        if (self.is_lock_held or self.way.is_late) and not self.is_lost:
             self._again, self.message = self._acting, why
         else:
             self.message = "that can't be done now"

@@ -130,7 +130,7 @@ class Session:
     @property
     def _seconds_to_end(self) -> int:
         """How long the host may take: one that said nothing will say nothing."""
-        if self.editor.way.is_broken:
+        if self.link.is_broken:
             return 0
         return SECONDS_OF_SILENCE if self.editor.way.is_late else SECONDS_TO_END
 
@@ -142,7 +142,7 @@ class Session:
     def _tell_of_staying(self) -> None:
         """How the user comes back to a session that stays, and what that lacks."""
         if self._stays:
-            lacks = "" if self.editor.way.has_all else ", which may lack what was done last here"
+            lacks = "" if self.link.has_all else ", which may lack what was done last here"
             say(f"samterm: the session stays at the host{lacks}. This goes on with it: {self._take_words()}")
 
     def _take_words(self) -> str:
@@ -158,10 +158,10 @@ class Session:
         try:
             status = self._end_link()
             if status == 0 and not self.link.stays:  # so the host has saved what was cut, too
-                keeping.is_cut_saved = True
+                keeping.note_saved_cut()
         finally:
             self.say_told()
-            self._keep_here((status == 0 or (self._stays and self.editor.way.has_all)) and not keeping.is_hopeless)
+            self._keep_here((status == 0 or (self._stays and self.link.has_all)) and not keeping.is_hopeless)
             self._tell_of_staying()
         if keeping.is_hopeless or status == STATUS_UNSAVED:
             return STATUS_UNSAVED
@@ -203,7 +203,7 @@ class Session:
         keeping, kept = self.editor.keeping, self.editor.kept_here
         try:
             with contextlib.suppress(SamError):
-                told = keeping.keep_here(self.editor.way.has_all, has_ended_well) if kept is None else kept
+                told = keeping.keep_here(self.link.has_all, has_ended_well) if kept is None else kept
                 say_all(keeping.keep_again(told))
         finally:
             say_all(keeping.keep_late())

@@ -4,9 +4,9 @@ import os
 import re
 import stat
 import sys
-import tempfile
+import time
+from functools import partial
 from itertools import chain
-from pathlib import Path
 from typing import Callable, Collection, Dict, Iterator, List, Optional, Set, Tuple
 
 from ..text.client_terminal import ClientTerminal
@@ -15,6 +15,7 @@ from ..text.texts import GAP
 MOST_NAMES = 1000  # names that are tried
 MOST_IN_BASE = 200  # bytes of the front of a name that names of files here begin with
 MOST_BYTES = 4_194_304  # of such a file that is read: a text has less
+LONGEST_BEGUN = 86_400  # seconds after which a file that is begun and has no text is left by a kill, and not on a slow disk
 
 NEW = ".new"  # ends the name of such a file while it is written again
 SUFFIX = ".sam-here"  # what comes after the name of a file, and before a number
@@ -24,7 +25,7 @@ TOLD_GAPS = re.compile(r"\[(\d+) characters that were not loaded\]")
 
 # What is no file's text has a name that no file has.
 OF_NO_FILE = "\0"
-TYPED, COMMAND_LINE, CUT = f"{OF_NO_FILE}typed", f"{OF_NO_FILE}command", f"{OF_NO_FILE}cut"
+TYPED, UNNAMED, CUT, COMMAND_LINE = (OF_NO_FILE + name for name in ("typed", "unnamed", "cut", "command"))
 
 LOOKS = (256, 64)  # characters beside a gap that are looked at, to find what it had
 MOST_PLACES, MOST_COMPARED = 10_000, 10_000_000  # places that are looked at, and characters there; after more it is not found
@@ -103,7 +104,7 @@ def keep(name: str, text: str) -> Optional[str]:
     """Writes a text to a new file of this machine: NAME.sam-here in this folder, else in one of the user's own. Returns its path; None
     where none could be written."""
     for front in chain((_base(name),), _own_fronts(name)):
-        path = _first_free(front, lambda free: _write(Path(free), text))
+        path = _first_free(front, partial(_write, text))
         if path is not None:
             _note(name, os.path.realpath(path))
             return os.path.realpath(path)
@@ -111,23 +112,42 @@ def keep(name: str, text: str) -> Optional[str]:
 
 
 def write_again(path: str, text: str) -> str:
-    """Puts another text in the place of such a file's, whole or not at all. Returns its path."""
-    file, new = tempfile.mkstemp(prefix=os.path.basename(path) + ".", suffix=NEW, dir=os.path.dirname(path))
-    _fill(file, new, text)
-    os.replace(new, path)
+    """Puts another text in the place of such a file's, whole or not at all. Returns its path. Until it is whole the new file has a name
+    that leads from the path: what a kill has left of it is found by that."""
+    new = path + NEW
+    with contextlib.suppress(FileNotFoundError):
+        os.unlink(new)
+    file = os.open(new, os.O_WRONLY | os.O_CREAT | os.O_EXCL | os.O_CLOEXEC, 0o600)
+    try:
+        with open(file, "wb") as sink:
+            sink.write(text.replace(GAP, "").encode("utf-8", "replace"))
+            sink.flush()
+            os.fsync(sink.fileno())
+        os.replace(new, path)
+    except BaseException:
+        os.unlink(new)
+        raise
     return path
 
 
-def renew(name: str, path: str, text: str) -> Optional[str]:
-    """The same; where that can't be, as its disk is full or away, or the name is another by now, the text is kept elsewhere, and the old
-    file goes. Returns the path; None where none could be written, and the old file stays as it is."""
+def remove(path: str) -> None:
+    """Removes such a file, and what a kill has left of writing it again."""
     with contextlib.suppress(OSError):
-        if ENDS.sub("", os.path.basename(path)) in (_base(name), f"{_number(name)}-{_base(name)}"):
-            return write_again(path, text)
+        os.unlink(path + NEW)
+    os.unlink(path)
+
+
+def renew(name: str, path: Optional[str], text: str) -> Optional[str]:
+    """The same, unless it has that text already; where that can't be, as there is none yet, its disk is full or away, or the name is
+    another by now, the text is kept elsewhere, and the old file goes. Returns the path; None where none could be written, and the old file
+    stays as it is."""
+    with contextlib.suppress(OSError):
+        if path is not None and ENDS.sub("", os.path.basename(path)) in (_base(name), f"{_number(name)}-{_base(name)}"):
+            return path if read(path) == text else write_again(path, text)
     elsewhere = keep(name, text)
-    if elsewhere is not None:
+    if path is not None and elsewhere is not None:
         with contextlib.suppress(OSError):
-            os.unlink(path)
+            remove(path)
     return elsewhere
 
 
@@ -148,8 +168,16 @@ def _first_free(front: str, make: Callable[[str], None]) -> Optional[str]:
 def _note(name: str, path: str) -> None:
     """Notes in the user's own folder, by a link, of which host's file a text is that was written elsewhere."""
     for front in _own_fronts(name):
-        if os.path.realpath(os.path.dirname(front)) == os.path.dirname(path) or _first_free(front, lambda free: os.symlink(path, free)):
+        if os.path.realpath(os.path.dirname(front)) == os.path.dirname(path) or _first_free(front, partial(_lead, path)):
             return
+
+
+def _lead(path: str, note: str) -> None:
+    """Makes a link to a path, also in the place of one that led there: each time that the line is lost a text may be written there."""
+    with contextlib.suppress(OSError):
+        if os.readlink(note) == path:
+            os.unlink(note)
+    os.symlink(path, note)
 
 
 def _has_lost(folder: str, note: str) -> bool:
@@ -218,9 +246,13 @@ def _entries(folder: str) -> List[str]:
 
 
 def _is_own(path: str) -> bool:
-    """Whether a path is a file of the user's."""
+    """Whether a path is a file of the user's with a text. One that a kill broke off before it had one is none, and goes after a while."""
     try:
-        return _is_file_of_ours(os.lstat(path))
+        status = os.lstat(path)
+        is_begun = status.st_size == 0 and not status.st_mode & stat.S_IWUSR
+        if is_begun and _is_file_of_ours(status) and time.time() - status.st_mtime > LONGEST_BEGUN:
+            remove(path)
+        return _is_file_of_ours(status) and not is_begun
     except OSError:
         return False
 
@@ -286,18 +318,18 @@ def _base(name: str) -> str:
     return base.encode(encoding, "replace")[:MOST_IN_BASE].decode(encoding, "ignore")
 
 
-def _write(path: Path, text: str) -> None:
-    """Writes a file that is not there yet, for its owner alone, whole or not at all."""
-    _fill(os.open(path, os.O_WRONLY | os.O_CREAT | os.O_EXCL, 0o600), str(path), text)
-
-
-def _fill(file: int, path: str, text: str) -> None:
-    """Writes a text to a new file that is open; where that can't be the file goes."""
+def _write(text: str, path: str) -> None:
+    """Writes a file that is not there yet, for its owner alone, whole or not at all. Until it is whole an empty one has its name, which
+    nobody may write: so it is told from an empty text."""
+    os.close(os.open(path, os.O_WRONLY | os.O_CREAT | os.O_EXCL, 0o400))
     try:
-        with open(file, "wb") as sink:
-            sink.write(text.replace(GAP, "").encode("utf-8", "replace"))
-            sink.flush()
-            os.fsync(sink.fileno())
+        write_again(path, text)
     except BaseException:
         os.unlink(path)
         raise
+    with contextlib.suppress(OSError):  # some systems bring no folder to the disk
+        folder = os.open(os.path.dirname(path) or ".", os.O_RDONLY | os.O_CLOEXEC)
+        try:
+            os.fsync(folder)
+        finally:
+            os.close(folder)

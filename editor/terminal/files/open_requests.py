@@ -5,13 +5,13 @@ from collections import deque
 from typing import Deque, List, NamedTuple, Optional, Tuple
 
 from ..keys.bindings import Input, Key, Text
-from ..view.menus import Menu
+from ..view.menus import STEPS, Menu
 from sulgrevad import Note, NoteCode, NoteFault, NoteKind
 
 QUIET = 1.0  # seconds after the last key from which on a file may come up that the user did not ask for
 MOST_WISHES = 64  # that wait; of more the first ones are dropped
 VERSION = 2  # of the protocol; with its offer come the names of files that have joined
-STEPS = {"\n": 0, "\t": 0, "Up": -1, "Down": 1}  # keys of the menu that go by its entries, and how far from the chosen one
+AT_CHOSEN = {"\n": 0, "\t": 0}  # keys of the menu that go by the chosen entry
 
 
 class Wished(NamedTuple):
@@ -32,6 +32,7 @@ class OpenRequests:
         self._wishes: Deque[Wished] = deque(maxlen=MOST_WISHES)
         self._asked_for: Optional[Wished] = None  # the wish for which the names were asked for
         self._goes_to: Optional[Wished] = None  # a file that is shown, until the line is gone to
+        self._shown_at = 0.0  # when
 
     def ask_names(self, path: str) -> int:
         """Asks for names that complete a path. Returns the number of the task; 0 where it is none, as of a path that is too long nothing is
@@ -84,10 +85,10 @@ class OpenRequests:
         if self._opened is not None and not self.terminal.command_locked and self.terminal.is_known(self._opened):
             tag, self._opened, self._path = self._opened, None, None
             editor.show(tag)
-        if self._wishes and editor.quiet_for >= QUIET and not editor.is_lock_held and not editor.way.is_late and editor.menu is None:
+        if self.seconds == 0:
             wished = self._wishes[0]
             if self.terminal.is_known(wished.tag):
-                self._goes_to = self._wishes.popleft()
+                self._goes_to, self._shown_at = self._wishes.popleft(), editor.clock()
                 editor.show(self._goes_to.tag)
             elif self._asked_for is wished:  # the names have come, and it has none
                 self._wishes.popleft()
@@ -96,7 +97,8 @@ class OpenRequests:
                 self.terminal.offer_version(VERSION)
         if self._goes_to is not None and editor.window_of(self._goes_to.tag).is_settled and not editor.is_lock_held:
             wished = self._goes_to
-            goes = wished.line > 0 and editor.active.tag == wished.tag
+            has_pressed = editor.quiet_for < editor.clock() - self._shown_at  # the next key would replace the line, which is selected
+            goes = wished.line > 0 and editor.active.tag == wished.tag and not has_pressed
             if goes and not editor.has_command_file():
                 return
             self._goes_to = None
@@ -135,19 +137,12 @@ class Files(Menu):
         return paths
 
     @property
-    def _count(self) -> int:
-        return len(self.shown) + len(self._paths)
+    def count(self) -> int:
+        return super().count + len(self._paths)
 
-    def lines(self, height: int):
-        paths = self._paths
-        texts = ["".join(self.entries[at]) for at in self.shown]
-        texts += [f"+ {path}{self._remark(path)}" for path in paths]
-        if self.has_more:
-            texts.append("  .. and more")
-        self.chosen = max(0, min(self.chosen, self._count - 1))
-        first = max(0, min(self.chosen - height // 2, len(texts) - height))
-        shown = [(text, at == self.chosen) for at, text in enumerate(texts)][first : first + height]
-        return shown + [("", False)] * (min(height, max(len(self.entries), len(texts))) - len(shown))
+    def texts(self) -> List[str]:
+        texts = super().texts() + [f"+ {path}{self._remark(path)}" for path in self._paths]
+        return texts + ["  .. and more"] if self.has_more else texts
 
     def _remark(self, path: str) -> str:
         is_new = self.is_answered and path == self.typed and path[len(self._folder) :] not in self.names
@@ -156,22 +151,15 @@ class Files(Menu):
     def lacks_names(self, key: Input) -> bool:
         """Whether a key, or the first of some, goes by the host's paths, of which the answer is still to come: so the same keys open the
         same file over any line."""
-        step = STEPS.get(key.runes[:1] if isinstance(key, Text) else key.name if isinstance(key, Key) else "")
+        step = AT_CHOSEN.get(key.runes[:1]) if isinstance(key, Text) else STEPS.get(key.name) if isinstance(key, Key) else None
         return step is not None and self._asked != 0 and not self.is_answered and self.chosen + step >= len(self.shown)
 
-    def take(self, key: Input) -> bool:
-        paths = self._paths
-        if isinstance(key, Text) and key.runes in ("\n", "\t"):
-            if self.chosen < len(self.shown):
-                if key.runes == "\n":
-                    return super().take(key)
-            elif self.chosen - len(self.shown) < len(paths):
-                self._take_path(paths[self.chosen - len(self.shown)], key.runes == "\n")
-            return False
-        if isinstance(key, Key) and key.name in STEPS:
-            self.chosen = max(0, min(self.chosen + STEPS[key.name], self._count - 1))
-            return False
-        return super().take(key)
+    def _enter(self, key: str) -> None:
+        paths = self._paths[max(0, self.chosen - len(self.shown)) :]
+        if self.chosen < len(self.shown):
+            super()._enter(key)
+        elif paths and key in AT_CHOSEN:
+            self._take_path(paths[0], key == "\n")
 
     def _take_path(self, path: str, opens: bool) -> None:
         if path.endswith("/") or not opens:

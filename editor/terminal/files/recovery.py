@@ -21,16 +21,23 @@ MOST_LOOKED_AT = 500  # files of which it is looked at once whether texts of the
 MOST_COMPARED = 1_000  # lines that differ, from the first to the last, of which it is shown how
 LONGEST_COMPARING = 0.5  # seconds of the processor for that
 RELOADS = "Enter puts in what the file has now"
+AGE_WORDS = {None: "", True: ", newer than the file", False: ", older than the file"}  # of a text
+# What is no file's, as it is told.
+OF_NO_FILE = {
+    local_backup.TYPED: "what was typed and not put in", local_backup.UNNAMED: "the text of a file without a name",
+    local_backup.CUT: "what was cut and not pasted", local_backup.COMMAND_LINE: "a command line that was begun",
+}  # fmt: skip
 
 
 class Old(NamedTuple):
     """A text that an earlier session left of a file."""
 
-    of: int  # the file; COMMAND for what was cut last, where the host has it, and for what was typed and not put in, where it is here
+    of: int  # the file; COMMAND for what was cut last, where the host has it, and for what is no file's, where it is here
     when: str
     is_newer: Optional[bool]  # than the file; None where nobody knows
     tag: int = COMMAND  # of the text, where the host has it
     path: str = ""  # else where it is here
+    what: str = ""  # what it is, where it is no file's
 
 
 class Changed(NamedTuple):
@@ -76,6 +83,10 @@ class Recovery:
                 self._seen.add(tag)
                 self.tags[tag] = Old(int(found[1]), found[3], found[2] == "+", tag=tag)
 
+    def look_at(self, tag: int) -> None:
+        """A file is opened, which may have joined since: texts of it may be here."""
+        self._unlooked.append(tag)
+
     def _look_here(self) -> None:
         """Looks whether texts of files are here, of a few files at once, so that no key waits for that. What is no file's is looked for
         last, and told first."""
@@ -83,7 +94,8 @@ class Recovery:
         for _ in range(min(MOST_LOOKED_AT, len(self._unlooked))):
             tag = self._unlooked.popleft()
             if tag == COMMAND:
-                found.extendleft((tag, local_backup.TYPED, path) for path in reversed(self._left_here.of(local_backup.TYPED)))
+                others = [(tag, name, path) for name in OF_NO_FILE for path in self._left_here.of(name)]
+                found.extendleft(reversed(others))
             elif self.terminal.is_known(tag):
                 name = self.terminal.name(tag)
                 found.extend((tag, name, path) for path in self._left_here.of(name))
@@ -97,19 +109,23 @@ class Recovery:
 
     def _note_here(self, tag: int, name: str, path: str) -> None:
         try:
-            saved = os.stat(path).st_mtime
+            status = os.stat(path)
         except OSError:
             return
-        written = self._times.get(tag)
+        known = self._here.get(path)
+        if known is not None and self.terminal.is_known(known.of):
+            return
+        if status.st_size == 0 and tag == COMMAND:  # it would paste nothing
+            return
+        written, saved = self._times.get(tag), status.st_mtime
         when = time.strftime("%Y-%m-%d %H:%M:%S", time.localtime(saved))
-        old = Old(tag, when, None if written is None else int(saved) >= written, path=path)
+        old = Old(tag, when, None if written is None else int(saved) >= written, path=path, what=OF_NO_FILE.get(name, ""))
         self._here[path] = old
         if tag == COMMAND:
             take, paste = self.editor.keys.of("old"), self.editor.keys.of("paste")
-            self.editor.notes.keep(1, f"what was typed and not put in is in {path}, of {when}; {take} has {paste} paste it, or drops it")
+            self.editor.notes.keep(1, f"{old.what} is in {path}, of {when}; {take} has {paste} paste it, or drops it")
             return
-        age = {None: "", True: ", newer than the file", False: ", older than the file"}[old.is_newer]
-        self.editor.notes.keep(1, f"of {name} a text was written here: it is in {path}, of {when}{age}{self.offer}")
+        self.editor.notes.keep(1, f"of {name} a text was written here: it is in {path}, of {when}{AGE_WORDS[old.is_newer]}{self.offer}")
 
     @property
     def offer(self) -> str:
@@ -118,16 +134,15 @@ class Recovery:
 
     @property
     def all(self) -> List[Union[Old, Changed]]:
-        changed = map(Changed, self.editor.reloading.all)
-        return sorted([*changed, *self.tags.values(), *self._here.values()], key=lambda old: (old.of, old.when))
+        """Of each file the newest first."""
+        olds = [*map(Changed, self.editor.reloading.all), *self.tags.values(), *self._here.values()]
+        return sorted(sorted(olds, key=lambda old: old.when, reverse=True), key=lambda old: old.of)
 
     def line(self, old: Union[Old, Changed]) -> str:
         if isinstance(old, Changed):
             return f"{self.editor.name(old.of)}: another program changed it"
-        what = self.editor.name(old.of)
-        if old.of == COMMAND:
-            what = "what was typed and not put in" if old.path else "what was cut last"
-        age = {None: "", True: ", newer than the file", False: ", older than the file"}[None if old.of == COMMAND else old.is_newer]
+        what = old.what or ("what was cut last" if old.of == COMMAND else self.editor.name(old.of))
+        age = "" if old.of == COMMAND else AGE_WORDS[old.is_newer]
         return f"{what}: {'written here' if old.path else 'saved by the host'} {old.when}{age}"
 
     def begin(self) -> None:
@@ -139,18 +154,22 @@ class Recovery:
     def drop(self, tag: int) -> None:
         """The file is closed."""
         self.tags.pop(tag, None)
+        self.take_out(tag)
+
+    def take_out(self, tag: int) -> None:
+        """What was taken into a file is not there any more: a write of the file drops it no more."""
         self._taken.pop(tag, None)
 
     # ---- Taking one back
 
     def take(self, old: Old) -> bool:
-        """Puts a text in the place of its file's. Returns whether that is done; else the key acts again."""
+        """Puts a text in the place of its file's. Returns whether that is done; else the key acts again, or can't act."""
         editor, tag = self.editor, old.of
         if isinstance(old, Changed):
             editor.show(tag)
             return editor.reloading.begin(tag, "Enter")
         if tag == COMMAND:
-            return self._take_typed(old) if old.path else self._snarf(old)
+            return self._snarf(old)
         if not self.terminal.is_known(tag):
             editor.message = "its file is closed"
             return True
@@ -158,24 +177,30 @@ class Recovery:
         if not editor.window_of(tag).is_settled:
             editor.act_again("waits for the file")
             return False
-        if not old.path and not (self._is_opened(old) and self._is_loaded(old.tag)):
+        text, self._whole = self._read(old), None
+        filled = self._filled(old, text) if old.path and text is not None else text
+        if filled is None or self._is_too_long(old, filled) or not editor.may_go_whole(tag, "Enter"):
             return False
-        text = local_backup.read(old.path) if old.path else self._text_of(old.tag)
-        if text is None:
-            editor.message = f"{old.path} can't be read"
-            return True
-        self._whole = None
-        filled = self._filled(old, text) if old.path else text
-        if filled is None or not editor.may_go_whole(tag, "Enter"):
-            return False
-        if len(filled) > MOST_RUNES:
-            editor.message = f"{old.path} is too long"
-            return True
         if self._put(old, filled):
             undo, write = editor.keys.of("undo"), editor.keys.of("write")
             then = f"{undo} takes it back; once {write} has written it, the old one is dropped"
             editor.message = f"{editor.name(tag)} has that text now. {then}"
         return True
+
+    def _read(self, old: Old) -> Optional[str]:
+        """A text; None where the key acts again once that is opened and loaded, or where it can't be read, which is told."""
+        if not old.path:
+            return self._text_of(old.tag) if self._is_opened(old) and self._is_loaded(old.tag) else None
+        text = local_backup.read(old.path)
+        if text is None:
+            self.editor.message = f"{old.path} can't be read"
+        return text
+
+    def _is_too_long(self, old: Old, text: str) -> bool:
+        """Whether no file has room for a text, which is told."""
+        if len(text) > MOST_RUNES:
+            self.editor.message = f"{old.path} is too long"
+        return len(text) > MOST_RUNES
 
     def _filled(self, old: Old, text: str) -> Optional[str]:
         """A text with what it lacks, from what the host saved of its file, else from the file itself, once the user was told. None where
@@ -188,7 +213,8 @@ class Recovery:
         if (whole is not None and not self._is_opened(whole)) or not self._is_loaded(tag):
             return None
         text = local_backup.filled(text, self._text_of(tag))
-        self._whole = None if local_backup.lacking(text) else whole
+        is_all_of_it = whole is not None and whole.when <= old.when and not local_backup.lacking(text)  # a newer one may have more
+        self._whole = whole if is_all_of_it else None
         source = "the file" if whole is None else "what the host saved"
         if self._warned != old and not self._is_warned(lacks, local_backup.lacking(text), source):
             return None
@@ -219,24 +245,18 @@ class Recovery:
         return self.editor.texts.read(tag, 0, self.terminal.len(tag))
 
     def _snarf(self, old: Old) -> bool:
-        """Makes a text that was cut the one that `^V` pastes."""
-        if not (self._is_opened(old) and self._is_loaded(old.tag)):
+        """Has `^V` paste what is no file's: where it was to go, only the user can know."""
+        editor, text, paste = self.editor, self._read(old), self.editor.keys.of("paste")
+        if text is None or self._is_too_long(old, text):
             return False
-        self.terminal.select(old.tag, 0, self.terminal.len(old.tag))
-        self.terminal.snarf(old.tag)
-        self.editor.note_snarfed(self._text_of(old.tag))
-        self.editor.message = f"{self.editor.keys.of('paste')} pastes it"
-        return True
-
-    def _take_typed(self, old: Old) -> bool:
-        """The same of what was typed and not put in: where it was to go, only the user can know."""
-        text = local_backup.read(old.path)
-        if text is None or len(text) > MOST_RUNES:
-            self.editor.message = f"{old.path} can't be read" if text is None else f"{old.path} is too long"
-            return True
-        self.editor.set_snarfed(text)
-        take, paste = self.editor.keys.of("old"), self.editor.keys.of("paste")
-        self.editor.message = f"{paste} pastes at the caret what was typed and not put in; {old.path} stays until {take} and d drop it"
+        if old.path:
+            editor.set_snarfed(text)
+            editor.message = f"{paste} pastes at the caret {old.what}; {old.path} stays until {editor.keys.of('old')} and d drop it"
+        else:
+            self.terminal.select(old.tag, 0, len(text))
+            self.terminal.snarf(old.tag)
+            editor.note_snarfed(text)
+            editor.message = f"{paste} pastes it"
         return True
 
     def _is_opened(self, old: Old) -> bool:
@@ -267,7 +287,7 @@ class Recovery:
         if old.path:
             self._here.pop(old.path, None)
             try:
-                os.unlink(old.path)
+                local_backup.remove(old.path)
             except OSError as error:
                 self.editor.message = f"{old.path} is not dropped: {error.strerror}"
         else:
@@ -309,12 +329,10 @@ class Recovery:
             editor.show(old.of)
             editor.act_again("opens the file")
             return False
-        if not old.path and not self._is_opened(old):
+        text = self._read(old) if self._is_loaded(old.of) else None
+        if text is None:
             return False
-        if not (self._is_loaded(old.of) and (old.path or self._is_loaded(old.tag))):
-            return False
-        text = local_backup.read(old.path) if old.path else self._text_of(old.tag)
-        lines = differences(self._text_of(old.of), text or "")
+        lines = differences(self._text_of(old.of), text)
         editor.menu = Lines(f"- {editor.name(old.of)}   + {self.line(old)}", [printable(line.expandtabs()) for line in lines])
         return True
 

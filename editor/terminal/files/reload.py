@@ -113,6 +113,7 @@ class Reload:
         start = common(gone, came)
         same = common(gone[start:][::-1], came[start:][::-1])
         self.forget(tag)
+        editor.left.take_out(tag)
         editor.log.begin(tag)
         editor.texts.edit(tag, start, len(gone) - same, came[start : len(came) - same])
         editor.window_of(tag).select(min(place, self.terminal.len(tag)))

@@ -2,23 +2,28 @@
 import os
 from collections import Counter
 from functools import partial
-from typing import Callable, Dict, List, Optional, Tuple, Union
+from typing import Callable, Dict, Iterator, List, Optional, Tuple, Union
 
 from . import local_backup
-from .backup_process import BackupProcess
-from .local_backup import COMMAND_LINE, CUT, TYPED
+from .backup_process import BackupProcess, Unsaved
+from .local_backup import COMMAND_LINE, CUT, TYPED, UNNAMED
 from ..view.status_line import rank_of, words_of
-from ..text.texts import GAP, Changes
+from ..text.texts import GAP
 from sulgrevad import Note, NoteCode, NoteKind
 
-HERE_AFTER = 10.0  # seconds without a line after which changed texts are also written here, and then again
+# Seconds without a line after which changed texts are also written here; and after which that is done again, with keys since and without.
+HERE_AFTER, HERE_AGAIN = 1.0, 10.0
+PAUSE = 20  # times what it took last, for which it is not done again: a long text on a slow disk takes a twentieth of the time
 # To begin that takes some milliseconds, so it comes between two keys: right after one, or once none has come for a while.
 JUST, QUIET = 0.01, 0.25  # seconds since a key
 MOST_PUT_OFF = 1.0  # seconds that it waits for that
-AGAIN = 0.1  # seconds until it is looked again whether what is to go is written
+AGAIN = 0.1  # seconds until it is looked again whether the last texts are written
 MOST_RUNES_IN_NAME = 64  # in the session; of a longer path the host shows the end
 # Why a write failed that would have replaced what stands in the file.
-REPLACING = {NoteCode.CHANGED_SINCE: "another program changed it", NoteCode.EXISTS_ALREADY: "it is there already"}
+REPLACING = {
+    NoteCode.CHANGED_SINCE: "another program changed it", NoteCode.EXISTS_ALREADY: "it is there already",
+    NoteCode.UNREADABLE: "it can't be read",
+}  # fmt: skip
 
 
 def shown_name(path: str) -> str:
@@ -32,11 +37,10 @@ class UnsavedTexts:
     def __init__(self, editor):
         self.editor, self.terminal = editor, editor.terminal
         self._is_lost_there = False  # the host could save a text nowhere
-        # What could not be written here, by file, name and text: what was told of it, and what tries it again.
-        self._failed: Dict[Tuple[Optional[int], str, str], Tuple[str, Callable[[], str]]] = {}
+        self.failed: List[Tuple[str, Callable[[], str]]] = []  # what could not be written here: what was told, and what tries it again
         self.typed_late = ""  # what was typed when the host was lost already, or memory was out for it
         self.has_left = False  # a text was written here
-        self.is_cut_saved = False  # the host has saved what was cut last
+        self._saved_cut = ""  # what the host has saved of what was cut
         # Files that the next write would replace: the name, None where it was not known yet, and what the host told.
         self._refused: Dict[int, Tuple[Optional[str], Note]] = {}
         self._changes: Counter = Counter()  # of each file
@@ -48,17 +52,13 @@ class UnsavedTexts:
         self._here_at: Optional[float] = None  # when
 
     @property
-    def has_failed(self) -> bool:
-        """Whether something could not be written here, which is tried again at the end."""
-        return bool(self._failed)
-
-    @property
     def is_hopeless(self) -> bool:
         """Whether a text could not be saved anywhere."""
-        return self._is_lost_there or self.has_failed
+        return self._is_lost_there or bool(self.failed)
 
     def name(self, tag: int) -> str:
-        return self.terminal.name(tag) or f"unnamed-{tag}"
+        """By which name a text is kept here."""
+        return self.terminal.name(tag) or UNNAMED
 
     def write(self, tag: int, task: int) -> None:
         """The host is told to write a file, by a task whose answer has this number."""
@@ -82,9 +82,6 @@ class UnsavedTexts:
         """The words that told of it."""
         return words_of(self._refused[tag][1]) if tag in self._refused else ""
 
-    def hear_changes(self, changes: Changes) -> None:
-        self.note_change(changes.tag, len(changes))
-
     def note_change(self, tag: int, count: int = 1) -> None:
         """A text changed so many times: what the host has saved aside before lacks that."""
         self._changes[tag] += count
@@ -100,10 +97,15 @@ class UnsavedTexts:
         elif note.kind == NoteKind.NOT_SAVED:
             self._meet_failure(note)
         elif note.kind == NoteKind.ASIDE and note.code == NoteCode.CUT:
-            self.is_cut_saved = True
+            self.note_saved_cut()
         elif note.kind == NoteKind.ASIDE and is_of_file:
             self._saved[tag] = self._changes[tag]
             self._dropped.pop(tag, None)
+
+    def note_saved_cut(self) -> None:
+        """The host has saved what was cut last, as far as it has that: it takes no long text that was not cut there."""
+        if self.terminal.snarf_len == len(self.editor.cut_text):
+            self._saved_cut = self.editor.cut_text
 
     def _meet_failure(self, note: Note) -> None:
         """A write failed, or would have replaced another program's text."""
@@ -143,38 +145,66 @@ class UnsavedTexts:
             self._dropped[tag] = (self.name(tag), local_backup.loaded(self.terminal, tag))
 
     def keep_here(self, has_all: bool, has_ended_well: bool = False) -> List[str]:
-        """Writes to files of this machine what nobody has saved, as far as it is loaded: texts, what was typed and still waits, the command
-        line that is begun, and what was cut and not pasted. Returns what to tell of them. What the host has saved lacks nothing only where
-        it has got all that was sent (`has_all`). If it has ended well then, it has saved all of it, also what it has told nothing of since
-        a file has that text already."""
-        if has_all and has_ended_well:
-            self._dropped.clear()
-        lines = [self._kept(name, text, tag) for tag, (name, text) in [*self._dropped.items()]]
-        for tag in filter(self.terminal.is_open, self.editor.changed_tags):
-            if not has_all or not (has_ended_well or self._saved.get(tag) == self._changes[tag]):
-                lines.append(self._kept_text(tag, self.name(tag)))
-        lines += [self.keep_typed(text, tag) for tag, text in self._typed_ahead().items()]
-        begun = "" if has_ended_well else self.editor.begun_line()
-        lines += [self._kept(COMMAND_LINE, begun)] if begun else []
-        lines += self._kept_cut(has_all and self.is_cut_saved)
+        """Writes to files of this machine what nobody has saved. Returns what to tell of them."""
+        lines = [self._kept(text) for text in self._unsaved(has_all, has_ended_well)]
         self._copies.drop()
         return lines
+
+    def _unsaved(self, has_all: bool = False, has_ended_well: bool = False) -> Iterator[Unsaved]:
+        """Texts as far as they are loaded, what was typed and still waits, the command line that is begun, and what was cut and not pasted.
+        What the host has saved lacks nothing only where it has got all that was sent (`has_all`). If it has ended well then, it has saved
+        all of it, also what it has told nothing of since a file has that text already."""
+        editor, terminal, cut = self.editor, self.terminal, self.editor.cut_text
+        if not (has_all and has_ended_well):
+            yield from (Unsaved(str(tag), name, partial(str, text)) for tag, (name, text) in self._dropped.items())
+        for tag in filter(terminal.is_open, editor.changed_tags):
+            if not has_all or not (has_ended_well or self._saved.get(tag) == self._changes[tag]):
+                yield Unsaved(str(tag), self.name(tag), partial(local_backup.loaded, terminal, tag))
+        for window, text in editor.typed_by_window().items():
+            if text:
+                yield self._typed(text, f"{TYPED} {window and window.tag}", (window or editor.active).tag)
+        if not has_ended_well and (begun := editor.begun_line()):
+            yield Unsaved(COMMAND_LINE, COMMAND_LINE, partial(str, begun))
+        if cut and not (has_all and cut == self._saved_cut):
+            lacks = f", without {cut.count(GAP)} characters that samhost saves unless it was killed before," if GAP in cut else ""
+            yield Unsaved(CUT, CUT, partial(local_backup.told, cut), f"what is loaded of cut{lacks}")
+
+    def _typed(self, text: str, which: str = "", tag: Optional[int] = None) -> Unsaved:
+        """What was typed and put in nowhere, for a file or for whichever comes: it is in no text, and so in none's file."""
+        known = tag is not None and self.editor.is_users(tag)
+        what = f"what was typed{f' for {self.editor.name(tag)}' if known else ''} and not put in"
+        return Unsaved(which, TYPED, partial(str, text), what)
+
+    def _kept(self, text: Unsaved, old: Optional[str] = None) -> str:
+        """Writes a text here, in the place of an older copy where there is one. Returns what to tell of it."""
+        old, what = self._copies.take(text.which) or old, text.what or f"what is loaded of {text.name}".replace("\0", "")
+        path, why = None, "no file can be written here"
+        try:
+            path = local_backup.renew(text.name, old, text.read())
+        except Exception as error:  # whatever it is, the other texts are written
+            why = str(error) or why
+        if path is not None:
+            self.has_left = True
+            return f"{what} is here in {path}"
+        line = f"{what} is lost: {why}" + (f"; {old} has it as it was before" if old else "")
+        self.failed.append((line, partial(self._kept, text, old)))
+        return line
+
+    def keep_typed(self, text: str) -> str:
+        """Writes here what was typed and put in nowhere. Returns what to tell of it."""
+        return self._kept(self._typed(text))
+
+    def keep_late(self) -> List[str]:
+        """The same of what was typed when the host was lost already: some of it before the user could know."""
+        text, self.typed_late = self.typed_late, ""
+        return [self.keep_typed(text)] if text else []
 
     def keep_again(self, told: List[str]) -> List[str]:
         """Tries again what could not be written here: there may be room by now, or memory. Returns lines that were told before, with what
         is to be told of that in the place of what was."""
-        failed = [*self._failed.values()]
+        failed, self.failed = self.failed, []
         stale = [line for line, _ in failed]
         return [line for line in told if line not in stale] + [again() for _, again in failed]
-
-    def _typed_ahead(self) -> Dict[int, str]:
-        """What was typed in each file and still waits. What may go to any is told with the file that was used last."""
-        editor, typed = self.editor, {}
-        for window in (None, *editor.all_windows.values()):
-            if text := editor.typed_in(window):
-                tag = (window or editor.active).tag
-                typed[tag] = typed.get(tag, "") + text
-        return typed
 
     # ---- While the line is lost
 
@@ -184,10 +214,14 @@ class UnsavedTexts:
         for that."""
         if self.editor.is_lost:
             return None
+        if self._copies.is_writing:
+            return AGAIN
         if not self.editor.way.is_late:
-            return AGAIN if self._copies.is_writing else None
-        since, quiet = self._here_at, self.editor.quiet_for
-        left = HERE_AFTER - (self.editor.way.silence if since is None else self.editor.clock() - since)
+            return None
+        quiet, left = self.editor.quiet_for, HERE_AFTER - self.editor.way.line.silence
+        if self._here_at is not None:
+            since = self.editor.clock() - self._here_at
+            left = max(HERE_AFTER if quiet < since else HERE_AGAIN, PAUSE * self._copies.took) - since
         return left if left > 0 or not JUST < quiet < QUIET else min(QUIET - quiet, left + MOST_PUT_OFF)
 
     @property
@@ -199,87 +233,23 @@ class UnsavedTexts:
     def write_here(self) -> None:
         """Begins to write them."""
         self._here_at = self.editor.clock()
-        self._keep_all_here()
+        self._copies.write([*self._unsaved()])
 
     def go_on(self) -> None:
-        """Once the line is back, and the host has all, what was written here goes, and files are written that were to be written."""
+        """Once the line is back, and the host has all, what was written here goes."""
         way = self.editor.way
-        if not way.is_late and self._here_at is not None and way.has_all and not self._copies.is_writing:
+        if not way.is_late and self._here_at is not None and way.line.has_all and not self._copies.is_writing:
             self._here_at = None
             self._copies.drop()
-        for tag in [] if way.is_late else list(self.put_off):
-            if not self.terminal.is_open(tag):
-                del self.put_off[tag]
-            elif not self.terminal.locked(tag) and not self.terminal.command_locked:
-                self._write_put_off(tag, self.put_off[tag])
-                del self.put_off[tag]
 
-    def _write_put_off(self, tag: int, is_sure: bool) -> None:
-        """The line is back: writes a file, unless another program's text stands in it and the user doesn't know."""
-        question = self.question(tag)
-        if not question or is_sure:
-            self.editor.write(tag)
-        elif not self.editor.asks_to_write({tag}):
-            self.editor.notes.keep(2, f"{self.name(tag)} is not written yet: {self.editor.keys.of('write')} asks first")
-
-    def _keep_all_here(self) -> None:
-        editor = self.editor
-        changed = filter(self.terminal.is_open, editor.changed_tags)
-        texts = [(tag, self.name(tag), partial(local_backup.loaded, self.terminal, tag)) for tag in changed]
-        others = (TYPED, lambda: editor.typed_ahead), (COMMAND_LINE, editor.begun_line), (CUT, lambda: local_backup.told(editor.cut_text))
-        self._copies.write([*texts, *((name, name, text_of) for name, text_of in others)])
-
-    def _kept_cut(self, is_saved: bool) -> List[str]:
-        """The same of what was cut, unless the host has told that it has saved all of that."""
-        text = self.editor.cut_text
-        if not text or is_saved:
-            return []
-        lacks = text.count(GAP)
-        lines = [self._kept(CUT, local_backup.told(text))]
-        if lacks:
-            lines.append(f"of what was cut {lacks} characters were not loaded: samhost saves all of it, unless it was killed before")
-        return lines
-
-    def keep_typed(self, text: str, tag: Optional[int] = None) -> str:
-        """The same of what was typed and put in nowhere, for a file or for whichever comes: it is in no text, and so in none's file."""
-        known = tag is not None and self.editor.is_users(tag)
-        return self._kept(TYPED, text, what=f"what was typed{f' for {self.name(tag)}' if known else ''} and not put in")
-
-    def keep_late(self) -> List[str]:
-        """The same of what was typed when the host was lost already: some of it before the user could know."""
-        text, self.typed_late = self.typed_late, ""
-        return [self.keep_typed(text)] if text else []
-
-    def _kept(self, name: str, text: str, tag: Optional[int] = None, what: str = "", old: Optional[str] = None) -> str:
-        """Writes a text here, in the place of an older copy where there is one. Returns what to tell of it."""
-        what, which = what or f"what is loaded of {name}".replace("\0", ""), (tag, name, text)
-        old = self._copies.take(name if tag is None else tag) or old
-        try:
-            path = local_backup.keep(name, text) if old is None else local_backup.renew(name, old, text)
-        except Exception:  # out of memory, say: the other texts are written
-            path = None
-        if path is None:
-            line = f"{what} is lost: no file can be written here"
-            return self._note_failed(which, line, old, lambda: self._kept(name, text, tag, what, old))
-        self._failed.pop(which, None)
-        self.has_left = True
-        if tag is not None:
-            self._saved[tag] = self._changes[tag]
-            self._dropped.pop(tag, None)
-        return f"{what} is here in {path}"
-
-    def _kept_text(self, tag: int, name: str, old: Optional[str] = None) -> str:
-        """The same of an open file. Where its text can't be read an older copy stays."""
-        try:
-            old = self._copies.take(tag) or old
-            text = local_backup.loaded(self.terminal, tag)
-        except Exception as error:  # whatever it is, the other texts are written
-            return self._note_failed((tag, name, ""), f"the text of {name} is lost: {error}", old, lambda: self._kept_text(tag, name, old))
-        self._failed.pop((tag, name, ""), None)
-        return self._kept(name, text, tag, old=old)
-
-    def _note_failed(self, which: Tuple[Optional[int], str, str], line: str, old: Optional[str], again: Callable[[], str]) -> str:
-        """A text could not be written here. Returns what to tell of it, with the older copy where there is one."""
-        line += f"; {old} has it as it was before" if old else ""
-        self._failed[which] = line, again
-        return line
+    def write_put_off(self) -> None:
+        """The line is back: files are written that were to be, unless another program's text stands there and the user doesn't know."""
+        for tag, is_sure in [*self.put_off.items()]:
+            is_open = self.terminal.is_open(tag)
+            if is_open and (self.terminal.locked(tag) or self.terminal.command_locked):
+                continue
+            if is_open and (is_sure or not self.question(tag)):
+                self.editor.write(tag)
+            elif is_open and not self.editor.asks_to_write({tag}):
+                self.editor.notes.keep(2, f"{self.name(tag)} is not written yet: {self.editor.keys.of('write')} asks first")
+            del self.put_off[tag]

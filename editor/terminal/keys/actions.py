@@ -1,5 +1,5 @@
 """What each key does. A method `do_NAME` stands for each action of the table of keys, here or in movement.py."""
-from typing import NamedTuple
+from typing import NamedTuple, Sequence
 
 from .command_lines import Commands, line_at
 from .search import Find, nothing_sought
@@ -35,18 +35,27 @@ class Actions(Commands, Moves):
     def type(self, pressed) -> None:
         window, runes, is_paste = self.focus, pressed.key.runes, isinstance(pressed.key, Paste)
         window.anchor = None
-        if window is not self.command:
-            if not is_paste:
-                runes = self.first_of(pressed, self._typed_at_once(window, runes))
-                self._acting = Text(runes)
-            self._type_in_file(window, runes, is_paste)
+        if window is self.command:
+            self._type_command(pressed)
             return
-        ends_line = "\n" in runes
-        if ends_line:
-            runes = self.first_of(pressed, runes.index("\n") + 1)[:-1]
-        if runes:
-            self.texts.replace(COMMAND, runes)
-        if ends_line:
+        if not is_paste:
+            runes = self.first_of(pressed, self._typed_at_once(window, runes))
+            self._acting = Text(runes)
+        self._type_in_file(window, runes, is_paste)
+
+    def _type_command(self, pressed) -> None:
+        """Types a command line, and runs it where it ends; those after it come next. They come back where it has no room, as they may go by
+        it."""
+        line, newline, others = pressed.key.runes.partition("\n")
+        if not self._has_room(len(line + newline)):
+            if others:
+                self.message = ""
+                self.give_back(pressed.key.runes, TOO_LONG)
+            return
+        self.first_of(pressed, len(line + newline))
+        if line:
+            self.texts.replace(COMMAND, line)
+        if newline:
             self._acting = Text("\n")
             self._run_line()
 
@@ -66,7 +75,7 @@ class Actions(Commands, Moves):
         if not self._may_go(window, "the same key again"):
             return
         runes = self._runes_of(window.targets, runes, is_paste)
-        if not self._has_room(len(runes)):
+        if not self._has_room(len(runes)) or self._waits_for_lock([runes]):
             return
         self.log.begin(window.tag, "" if is_paste or "\n" in runes else "type", start, end)
         self.texts.replace(window.tag, runes)
@@ -98,22 +107,25 @@ class Actions(Commands, Moves):
     def is_loaded_or_sure(self, tag: int, start: int, end: int, goes_on: str) -> bool:
         """Whether a text is loaded that is to go, so that it can be brought back, or the user is sure. Where it isn't, and can be, it is
         loaded, and this key acts again then."""
-        gaps = self.terminal.gaps(tag, start, end - start)
-        if gaps == 0:
-            return True
-        undo = self.keys.of("undo")
+        gaps, undo = self.terminal.gaps(tag, start, end - start), self.keys.of("undo")
         question = f"{gaps} characters of it are not loaded: {undo} can't bring them back. {goes_on}"
-        if self._answered == question or self.is_alone:
+        return gaps == 0 or self._is_sure_or_loads(question, tag, start, end, f"what goes is loaded, so that {undo} can bring it back")
+
+    def _is_sure_or_loads(self, question: str, tag: int, start: int, end: int, why: str) -> bool:
+        """Whether the user is sure of what he is asked as a stretch is not loaded. Where that can be, it is, and this key acts again then;
+        so it waits for the end of a short break."""
+        if self._answered == question or self.is_lost or self.way.is_known_late or self.terminal.first_gap(tag) is None:
             return self.is_sure(question)
-        self.load_all(tag, start, end, f"what goes is loaded, so that {undo} can bring it back")
+        self.load_all(tag, start, end, why)
         return False
 
     def load_all(self, tag: int, start: int, end: int, why: str) -> None:
         """Loads a stretch in one round trip; the key that acts now acts again then."""
-        if not self.terminal.locked(tag):
+        is_late = self.way.is_late
+        if not is_late and not self.terminal.locked(tag):
             gap = self.terminal.first_gap(tag, start)
             self.terminal.load(tag, start if gap is None else gap, end - (start if gap is None else gap))
-        self.act_again(why)
+        self.act_again("waits for the line" if is_late else why)
 
     # ---- Actions: the screen
 
@@ -315,7 +327,7 @@ class Actions(Commands, Moves):
 
     def _paste(self, text: str) -> None:
         """Puts a text in the place of the selection."""
-        if self._has_room(len(text)) and self._goes("paste"):
+        if self._has_room(len(text)) and not self._waits_for_lock([text]) and self._goes("paste"):
             self.texts.replace(self.focus.tag, text)
             self.cut_text = ""
 
@@ -331,7 +343,7 @@ class Actions(Commands, Moves):
         self.note_snarfed(text)
         tag, start, end = pasting
         self.log.begin(tag)
-        is_there = self.texts.dot(tag) == (start, end)
+        is_there = self.terminal.dot(tag) == (start, end)
         if self.texts.edit(tag, start, end, text) and is_there:
             self.window_of(tag).select(start + len(text))
 
@@ -415,17 +427,20 @@ class Actions(Commands, Moves):
             self.message = f"nothing is indented: {lacking:,} characters of the selection are not loaded. Select less"
             return
         blanks = [0 if came else window.targets.indent_of(line) for line in lines]
-        if not self._has_room(window.dot[1] - window.dot[0] + len(came) * len(lines)):
-            return
-        if self._waits_for_many(len(lines)):
+        has_room = self._has_room(window.dot[1] - window.dot[0] + len(came) * len(lines))
+        if not has_room or self._waits_for_lock([came] * len(lines)):
             return
         self.log.begin(window.tag)
         each = (Change(window.tag, line, window.read(line, gone), came) for line, gone in zip(reversed(lines), reversed(blanks)))
         self.texts.edit_each(window.tag, [change for change in each if change.gone or came])
 
-    def _waits_for_many(self, count: int) -> bool:
-        """Whether so many changes wait until nothing locks their file: of those that wait each costs the more the more do."""
-        waits = count > MOST_UNDER_A_LOCK and self.terminal.locked(self.focus.tag) and not self.is_lost
+    def _waits_for_lock(self, came: Sequence[str]) -> bool:
+        """Whether changes that bring these texts wait until nothing locks their file: there each costs the more the more wait, and what
+        went takes up room still."""
+        tag = self.focus.tag
+        if self.is_lost or not self.terminal.locked(tag):
+            return False
+        waits = len(came) > MOST_UNDER_A_LOCK or not self.terminal.has_room(tag, sum(map(len, came)))
         if waits:
             self.act_again("waits for the host")
         return waits
@@ -449,14 +464,15 @@ class Actions(Commands, Moves):
         count = self.log.unknown(step)
         undo, redo = self.keys.of("undo"), self.keys.of("redo")
         question = f"{count} characters of what goes are not loaded: {redo} can't bring them again. {undo} again goes on"
-        if count and not self.is_alone and self.terminal.first_gap(tag) is not None:
-            self.load_all(tag, 0, self.focus.length, f"what goes is loaded, so that {redo} can bring it again")
-        elif (count == 0 or self.is_sure(question)) and not self._waits_for_many(len(step.stand)):
+        why = f"what goes is loaded, so that {redo} can bring it again"
+        is_sure = count == 0 or self._is_sure_or_loads(question, tag, 0, self.focus.length, why)
+        if is_sure and not self._waits_for_lock([change.gone for change in step.stand]):
             self.log.back(tag)
 
     def do_redo(self) -> None:
         step = self.log.last(self.log.future, self.focus.tag)
-        if self._can_turn(step, step and step.lacks_again, "nothing was taken back") and not self._waits_for_many(len(step.went)):
+        can_turn = self._can_turn(step, step and step.lacks_again, "nothing was taken back")
+        if can_turn and not self._waits_for_lock([change.came for change in step.went]):
             self.log.again(self.focus.tag)
 
     def _can_turn(self, step, lacks, nothing: str) -> bool:

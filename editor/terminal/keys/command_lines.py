@@ -99,7 +99,7 @@ class Commands:
         self._parts_left = 0
         before, self._before = self._before or {}, None
         for tag, dot in before.items():
-            is_touched = tag in self._ends or (tag in self._selected and self.texts.dot(tag) != dot)
+            is_touched = tag in self._ends or (tag in self._selected and self.terminal.dot(tag) != dot)
             if tag == COMMAND or not self.terminal.is_open(tag) or not is_touched:
                 continue
             window = self.window_of(tag)
@@ -124,7 +124,7 @@ class Commands:
         self.message = help_of(line, word, self.keys)
         parts = None
         if word == "long" and self.terminal.is_open(tag):
-            parts = parts_of(line, self.terminal.len(tag), self.texts.dot(tag), lambda place, count: self.texts.read(tag, place, count))
+            parts = parts_of(line, self.terminal.len(tag), self.terminal.dot(tag), lambda place, count: self.texts.read(tag, place, count))
         if parts is not None and parts.lines:
             self._run_parts(parts.lines)
             undo = self.keys.of("undo")

@@ -5,7 +5,7 @@ from collections import deque
 from itertools import islice
 from typing import Callable, Deque, Dict, Iterable, NamedTuple, Optional, Set
 
-from .bindings import ALL, ANSWERS, FILE, LINE, NOTHING, PATTERN, PLACE, ROWS, SCREEN, WINDOW, WINDOWS
+from .bindings import ALL, ANSWERS, CLIPBOARD, FILE, LINE, NOTHING, PATTERN, PLACE, ROWS, SCREEN, WINDOW, WINDOWS
 from .bindings import PROMPT, Binding, Input, Key, KeySet, Mouse, Paste, Text
 from ..files.open_requests import Files
 from ..view.layout import line_end, line_start
@@ -256,7 +256,7 @@ class KeyQueue:
         if self.is_lost or not self.way.is_late:
             return False
         unwritten = self.changed_names
-        if self.way.line.stays and (unwritten or self.deferred or not self.way.has_all):
+        if self.way.line.stays and (unwritten or self.deferred or not self.way.line.has_all):
             self._ask(f"{self.of_leaving(STAYS)}{unwritten or 'nothing is unwritten'}", key)
         elif unwritten or self.deferred:
             self._ask(f"{self.of_leaving(SILENT)}: {unwritten or 'keys that wait'}", key)
@@ -290,16 +290,12 @@ class KeyQueue:
 
     def _act_in_order(self) -> None:
         """Does what the keys say, of each window up to the first that has to wait."""
-        self._wants_text, self._at = False, 0
+        self._wants_text, self._at, held = False, 0, Held()
         self._look_at_the_line()
-        if not self.deferred:
-            self._foreseen = None
-            return
-        held = Held()
         while self._at < len(self.deferred) and not held.is_all:
             pressed = self.deferred[self._at] = self._with_window(self.deferred[self._at])
             is_held = self._at > 0 and self._is_held(pressed, held)
-            if not is_held and not self._must_wait_in_window(pressed):
+            if not is_held and not self._in(pressed.window, self._must_wait, pressed):
                 del self.deferred[self._at]
                 self._act_in_window(pressed)
             elif is_held or not self._is_refused(pressed):
@@ -395,9 +391,6 @@ class KeyQueue:
 
     # ---- What a key waits for
 
-    def _must_wait_in_window(self, pressed: Pressed) -> Optional[bool]:
-        return self._in(pressed.window, self._must_wait, pressed)
-
     def _must_wait(self, pressed: Pressed) -> bool:
         """Whether what a key acts on is not settled: the windows, what was changed, or the places in a window."""
         key, binding = pressed.key, self._binding(pressed)
@@ -407,7 +400,7 @@ class KeyQueue:
             return False
         if pressed.told_at is not None and self.way.is_late:
             return True
-        if pressed.is_again and self.is_lock_held:
+        if pressed.is_again and (self.is_lock_held or self.way.is_late):
             return True
         if pressed.window is None and self._is_for_menu(key):
             if self.menu.is_box:
@@ -432,7 +425,8 @@ class KeyQueue:
             return True
         if binding.action == "write" and self.keeping.is_being_written(window.tag):  # a second write would replace what stops the first
             return True
-        return self.pasting is not None and self.pasting.tag == window.tag and binding is not TYPING
+        is_asked_for = self.pasting is not None and (self.pasting.tag == window.tag or binding.shares == CLIPBOARD)
+        return is_asked_for and binding is not TYPING
 
     def _runs_line(self, pressed: Pressed, binding: Binding) -> bool:
         """Whether a key acts by the command file: what is typed there, and what has the host run a line."""
@@ -440,14 +434,18 @@ class KeyQueue:
         return is_there or binding.order == LINE or (binding.action == "search" and self.sought_here != "")
 
     def _lacks_command_file(self, runs_line: bool) -> bool:
-        """Whether a key that acts by the command file has to wait for it. The host is asked for it then."""
-        return runs_line and not self.is_alone and not self.has_command_file()
+        """Whether a key that acts by the command file has to wait for it, which the host is asked for then; or for the answer to another
+        line, as what that prints comes first."""
+        return runs_line and not self.is_alone and (not self.has_command_file() or self.terminal.runs_line)
 
     # ---- Where the line is lost, or answers are late
 
     def _look_at_the_line(self) -> None:
-        """What would lock a file until the line is back is held back while answers are late."""
+        """What would lock a file until the line is back is held back while answers are late. A write that was put off comes before the
+        keys behind it."""
         is_late = self.texts.holds_back = self.way.note_late()
+        if not (is_late or self.is_lost):
+            self._tried(self.keeping.write_put_off)
         if not is_late and any(pressed.told_at is not None for pressed in self.deferred):
             self.deferred = deque(pressed._replace(told_at=None) for pressed in self.deferred)
 
@@ -584,9 +582,10 @@ class KeyQueue:
         """What was typed and still waits."""
         return typed_of(self.deferred)
 
-    def typed_in(self, window: Optional[Window]) -> str:
-        """The same of what was typed in a window; or, where that is None, for whichever keys will go to."""
-        return typed_of(pressed for pressed in self.deferred if pressed.window is window)
+    def typed_by_window(self) -> Dict[Optional[Window], str]:
+        """The same, by the window in which it was typed; by None for whichever keys will go to."""
+        windows = dict.fromkeys(pressed.window for pressed in self.deferred)
+        return {window: typed_of(pressed for pressed in self.deferred if pressed.window is window) for window in windows}
 
     @property
     def _turns(self) -> int:
@@ -598,25 +597,17 @@ class KeyQueue:
     @property
     def is_busy(self) -> bool:
         """Whether keys come, are held or wait, and not for text: nothing more is asked for then."""
-        return not self._wants_text and (bool(self.deferred) or self.busy_left > 0 or self.terminal.is_asking)
-
-    @property
-    def busy_left(self) -> float:
-        return self._left(self._edited_at, BUSY)
+        return not self._wants_text and (bool(self.deferred) or self._left(self._edited_at, BUSY) > 0 or self.terminal.is_asking)
 
     @property
     def rests(self) -> bool:
         """Whether no key came for a while, and none waits."""
-        return not self.deferred and self.rest_left <= 0 and not self.terminal.is_asking
+        return not self.deferred and self._left(self._pressed_at, REST) <= 0 and not self.terminal.is_asking
 
     @property
     def quiet_for(self) -> float:
         """For how many seconds no key has come."""
         return self.clock() - self._pressed_at
-
-    @property
-    def rest_left(self) -> float:
-        return self._left(self._pressed_at, REST)
 
     def _left(self, since: float, seconds: float, now: Optional[float] = None) -> float:
         """How much is left of so many seconds since a time, to the microsecond."""

@@ -9,7 +9,7 @@ KNOWN_AFTER = 3.0  # seconds for which answers are late until the user has to kn
 
 
 class Lateness:
-    """The way to the host."""
+    """The way to the host: a line, and what stands on it."""
 
     def __init__(self, terminal: ClientTerminal, line: PersistentSession, clock: Callable[[], float]):
         self.terminal, self.line, self.clock = terminal, line, clock
@@ -17,24 +17,9 @@ class Lateness:
         self._late_since: Optional[float] = None
 
     @property
-    def has_all(self) -> bool:
-        """Whether the host is known to have taken all that the user did."""
-        return self.line.has_all
-
-    @property
-    def silence(self) -> float:
-        """For how many seconds the host has said nothing, though an answer is due."""
-        return self.line.silence
-
-    @property
-    def is_broken(self) -> bool:
-        return self.line.is_broken
-
-    @property
     def is_late(self) -> bool:
         """Whether the line is lost, or an answer is late: what needs an answer is held back then."""
-        silence = self.line.silence
-        return self.line.is_broken or (silence > 0 and silence >= self.line.late_after)
+        return self.line.is_broken or self.line.silence >= self.line.late_after
 
     @property
     def is_known_late(self) -> bool:
@@ -63,7 +48,7 @@ class Lateness:
 
     def _under_way(self) -> int:
         """How many messages the host may not have taken."""
-        count = 0 if self.has_all else self.terminal.state().under_way
+        count = 0 if self.line.has_all else self.terminal.state().under_way
         if count == 0:
             self._since = None
         elif self._since is None:

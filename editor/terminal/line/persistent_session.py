@@ -8,7 +8,7 @@ import os
 import re
 import select
 import time
-from typing import Callable, Dict, List, Optional, Sequence
+from typing import Callable, Dict, List, Optional, Sequence, Tuple
 
 from ..keys.bindings import SAM
 from .host_process import SECONDS_TO_END, HostProcess, wait_for
@@ -19,7 +19,6 @@ ID_BYTES, NAME_BYTES = 16, 8  # of a session; of its name the first ones, in hex
 LEAST_PIECE, PIECE = 4_096, 65_536  # bytes that are taken at once: first so many, and then more
 
 SECONDS_TO_GO = 2  # that the last bytes may take where the session stays
-LATE_AFTER = 1.0  # seconds, and two round trips, after which an answer counts as late
 SURE_AFTER = 0.1  # seconds of silence from which on the client is asked whether something is due: before that nobody goes by it
 RETRY = 0.1  # seconds until that for which the memory was too small is tried again
 MOST_EARLY = 100_000  # notes that may come before the stream begins
@@ -29,7 +28,7 @@ ALIKE = 3  # connections that end alike, one after another, of which the user is
 SECONDS_APART = 60.0  # that a connection lasts whose end is no more of the same
 SESSION = re.compile("[0-9a-f]{16}")  # a session's name: it goes into a command line
 MOST_IN_NAME = 40  # runes of another that are told
-MOST_STATUS = 255  # of a process that ends
+MOST_STATUS, WRONG_WORDS = 255, 2  # of a process that ends; and that of one which knows no such words
 MESSAGES = 1  # the version of the session's messages
 OTHER_MESSAGES = "samhost there is of another version: both have to be of one release"
 
@@ -277,18 +276,22 @@ class PersistentSession:
         self._hear_network(ready)
         relay, tells = self.relay, []  # type: Optional[HostProcess], List[str]
         if relay is not None:
-            data = relay.receive() if relay.source in ready and not relay.is_lost else b""
-            # It tells of a text before it answers; an open line tells by notes.
-            has_told = relay.messages in ready or relay.has_lines or (relay.source in ready and not (data and self.is_open))
-            if has_told and not relay.is_quiet:
-                tells += self._new_lines(relay)
-            if data or self._unheard:
-                self._hear(data)
+            data, tells = self._hear_relay(relay, ready)
             if relay.is_lost and not data and relay is self.relay and not self.is_lost:  # all that came is met before
                 tells += self._last_lines(relay)
                 self._break("" if self.is_open else self._words)
         self.go_on()
         return [*tells, *self._told_of()]
+
+    def _hear_relay(self, relay: HostProcess, ready: Dict[int, int]) -> Tuple[bytes, List[str]]:
+        """Gives the client what has come on a connection. Returns that, and what its programs have told."""
+        data = relay.receive() if relay.source in ready and not relay.is_lost else b""
+        # It tells of a text before it answers; an open line tells by notes.
+        has_told = relay.messages in ready or relay.has_lines or (relay.source in ready and not (data and self.is_open))
+        tells = self._new_lines(relay) if has_told and not relay.is_quiet else []
+        if data or self._unheard:
+            self._hear(data)
+        return data, tells
 
     def _told_of(self) -> List[str]:
         """What there is to tell of connections."""
@@ -385,20 +388,14 @@ class PersistentSession:
         return 0.0 if self._is_due is False else silence
 
     @property
-    def round_trip(self) -> float:
-        """Seconds that the answer to the last question took."""
-        return self._details.round_trip / 1000
-
-    @property
     def late_after(self) -> float:
         """The silence after which an answer counts as late."""
-        return LATE_AFTER + 2 * self.round_trip
+        return self._details.overdue_after / 1000
 
     @property
     def is_broken(self) -> bool:
         """Whether there is no line, though there was one."""
-        details = self._details
-        return details.state not in (Client.OPEN, Client.LATE) and (details.is_known or details.failures > 0)
+        return self._details.is_broken
 
     @property
     def told(self) -> str:
@@ -418,7 +415,7 @@ class PersistentSession:
     @property
     def refused_words(self) -> bool:
         """Whether the host's command has ended at its words, before any byte: a samhost that knows of no session that stays."""
-        return self.relay is not None and self.relay.is_lost and not self.relay.down and self.relay.process.wait() == 2
+        return self.relay is not None and not self.relay.down and self.early_status == WRONG_WORDS
 
     @property
     def early_status(self) -> Optional[int]:
@@ -433,10 +430,8 @@ class PersistentSession:
             self.send()
             relay, ready = self.relay, wait_for(self.wanted(), self.delay())
             self._hear_network(ready)
-            for line in self._new_lines(relay) if not relay.is_quiet and (relay.messages in ready or relay.has_lines) else []:
+            for line in self._hear_relay(relay, ready)[1]:
                 hear(line)
-            if (relay.source in ready and (data := relay.receive())) or self._unheard:
-                self._hear(data)
             has_begun = go_on()
             if self._notes_met > MOST_EARLY:
                 self._lose("the host tells without an end")

@@ -3,13 +3,13 @@ import os
 import time
 from collections import deque
 from contextlib import contextmanager, suppress
-from functools import partialmethod
-from typing import Callable, Deque, Dict, Iterator, List, Optional, Sequence, Tuple
+from functools import partial, partialmethod
+from typing import Callable, Deque, Dict, Iterator, List, Optional, Sequence, Tuple, TypeVar
 
 from .text_copy import Edit, TextCopy
 from .texts import COMMAND, GAP, MOST_RUNES, MOST_TYPED, Change, Changes, moved
 from sulgrevad import Client, ClientEvent, ClientEventKind, Dropped, EditRefused, EventKind, FileState, Kind, NoteKind, Replacement
-from sulgrevad import SamError, ShownEdit, Splice, SpliceKind, Status, Step, TerminalDid, TerminalState, TooMany, Waiting
+from sulgrevad import SamError, ShownEdit, SpliceKind, Status, Step, TerminalDid, TerminalState, TooMany, Waiting
 
 MOST_WAITING = 64  # edits of a free file that wait together: each costs the more the more wait
 NAMING = (Kind.HNEWNAME, Kind.HMOVNAME, Kind.HDELNAME)  # frames that change a name
@@ -17,15 +17,19 @@ NAMING = (Kind.HNEWNAME, Kind.HMOVNAME, Kind.HDELNAME)  # frames that change a n
 WENT, FILLED = int(SpliceKind.WENT), int(SpliceKind.FILLED)
 
 Told = Dict[int, Callable[[int], None]]
+Answer = TypeVar("Answer")
 
 
-def place_after(splice: Splice, later: Sequence[Splice]) -> int:
-    """Where that stands which a splice of a step put in, after the others of that step."""
-    place = splice.place
-    for other in later:
-        if other.tag == splice.tag and other.place <= place:
-            place += {SpliceKind.CAME: other.length, SpliceKind.WENT: -other.length}.get(other.kind, 0)
-    return place
+class Answers(Dict[int, Answer]):
+    """What the client answers for each file, until it is cleared: each is asked for once."""
+
+    def __init__(self, ask: Callable[[int], Answer]):
+        super().__init__()
+        self._ask = ask
+
+    def __missing__(self, tag: int) -> Answer:
+        answer = self[tag] = self._ask(tag)
+        return answer
 
 
 class ClientTerminal:
@@ -50,26 +54,25 @@ class ClientTerminal:
         self.has_begun = False  # the host's stream has
         self._copies: Dict[int, TextCopy] = {}
         self._dots: Dict[int, Tuple[int, int]] = {}
-        self._files: Dict[int, FileState] = {}  # what is known of files and of all, until something is done
-        self._opened: Dict[int, bool] = {}  # whether a file is open, until a frame comes that is no edit
-        self._unsaved: Dict[int, bool] = {}
+        self._files: Answers[FileState] = Answers(client.file)  # what is known of files and of all, until something is done
+        self._opened: Answers[bool] = Answers(lambda tag: self.file(tag).is_open)  # until a frame comes that is no edit
+        self._unsaved: Answers[bool] = Answers(client.is_unsaved)
         self._now: Optional[TerminalState] = None
         self._asked = self._acted = 0  # the last request that was taken, and the last of those that have acted or were refused
         self._may_write = False  # a write may wait, of which no number is known
-        self._names: Dict[int, str] = {}
+        self._names: Answers[str] = Answers(client.name)
         self._current: Tuple[Optional[int], ...] = ()  # empty where it was not asked
         self._edits: List[ShownEdit] = []  # that came, not made in the copies yet
         self._changes: List[Change] = []  # of one file, not told yet
         self._later: Deque[Callable[[], None]] = deque()
-        self._notes: Deque[bytes] = deque()
         self._settled_at = 0  # after which deed it was looked what is answered
         self._is_level = False  # all that has come is done
         self._event: Optional[ClientEvent] = None  # what the client told last, until it is met
         self._has_grown = False  # the host has put something in since it was looked whether what waits has room
         self._bound: Optional[int] = None  # the file that the last frame opened; its text comes next
         self._awaited: Dict[int, int] = {}  # files whose text or selection the host's answer sets, and to which request
-        self._works_on: Optional[int] = None  # the file on which command lines work
-        self._line_request = 0  # the request of the last command line; 0 once it is answered
+        self._works_on: Optional[int] = None  # the file on which command lines work; None where nobody knows
+        self._lines: Dict[Optional[int], int] = {}  # the same of command lines that are not answered, and to which request
 
     # ---- Going on
 
@@ -176,7 +179,7 @@ class ClientTerminal:
         if event.kind == ClientEventKind.BUSY:
             self._forget()
         elif event.kind in (ClientEventKind.NOTE, ClientEventKind.ANSWERED):
-            self._notes.append(self.client.note)
+            self._later.append(partial(self.hear, self.client.note))
         elif event.kind == ClientEventKind.STEPPED and did is not None:
             self._meet(did)
         elif did is not None and did.why is not None:
@@ -211,12 +214,9 @@ class ClientTerminal:
 
     def _follow(self) -> None:
         """Does what was to wait until the last step was made."""
-        while self._later or self._notes:
+        while self._later:
             self._tell_changes()
-            if self._later:
-                self._later.popleft()()
-            else:
-                self.hear(self._notes.popleft())
+            self._later.popleft()()
 
     def _take_back(self) -> bool:
         """Takes back what waits and has no room, since the host put more in meanwhile. Returns whether there was any."""
@@ -242,8 +242,8 @@ class ClientTerminal:
         """Forgets what is answered: a request that has acted, where its lock is free again."""
         acted, files = self._acted, [*self._awaited.items()]
         self._awaited = {tag: request for tag, request in files if request > acted or self.file(tag).is_locked}
-        if 0 < self._line_request <= acted and not self.state().command_locked:
-            self._line_request = 0
+        if self._lines and not self.state().command_locked:
+            self._lines = {tag: request for tag, request in self._lines.items() if request > acted}
 
     # ---- Changes of the shown texts
 
@@ -278,25 +278,17 @@ class ClientTerminal:
         self.touch(tag)
 
     def _make_changes(self, did: TerminalDid) -> None:
-        """Makes the changes of the last step in the copies."""
-        splices = [*self.client.splices()]
-        self._has_grown = self._has_grown or bool(splices)
-        is_opening = did.kind == Kind.HGROW and did.tag == self._bound
-        for at, splice in enumerate(splices, 1):
-            kind, tag, place, length = splice
+        """Makes the changes of the last step in the copies. Runes that come are the last of them, so they are read where they stand."""
+        for kind, tag, place, length in [*self.client.splices()]:
+            self._has_grown = True
             if kind == SpliceKind.EMPTIED:
                 self._empty(tag)
             elif kind == SpliceKind.WENT:
                 self._change_each(tag, [(place, length, "")])
+            elif did.kind == Kind.HGROW and tag == self._bound:  # the file is opened
+                self._fill(tag, place, self.client.runes(tag, place, length, GAP))
             else:
-                came = self.client.runes(tag, place_after(splice, splices[at:]), length, GAP)
-                if kind == SpliceKind.FILLED:
-                    self._fill(tag, place, came)
-                elif is_opening and tag in self._copies:  # which is no change
-                    self._copies[tag].replace(place, place, came)
-                    self.touch(tag)
-                else:
-                    self._change_each(tag, [(place, 0, came)])
+                self._change_each(tag, [(place, 0, self.client.runes(tag, place, length, GAP))])
 
     def _empty(self, tag: int) -> None:
         """A file was opened or closed."""
@@ -381,6 +373,10 @@ class ClientTerminal:
                 self._replaced(tag, [(start, end - start, came)])
         return made
 
+    def has_room(self, tag: int, came: int) -> bool:
+        """Whether so many runes have room over a locked file, where what waits to go counts, too."""
+        return self.file(tag).len + self.client.waiting(tag) + came <= MOST_RUNES
+
     def _has_room(self, tag: int, gone: int, came: int) -> bool:
         """Whether a text has room for what comes once what goes is gone: to the client, what waits to go counts, too."""
         if self.file(tag).is_locked or gone == 0:
@@ -417,7 +413,7 @@ class ClientTerminal:
         """Types at most MOST_TYPED runes in the command file, in the place of what is selected there. A newline runs a command line."""
         self._ask(EventKind.TYPE_CMD, text=text)
         if "\n" in text:
-            self._line_request = self._asked
+            self._lines[self._works_on] = self._asked
 
     def cut_command(self) -> None:
         self._ask(EventKind.CUT_CMD)
@@ -484,7 +480,7 @@ class ClientTerminal:
 
     def send(self, tag: int) -> None:
         self._ask_for_dot(EventKind.SEND, tag)
-        self._line_request = self._asked
+        self._lines[self._works_on] = self._asked
 
     def work(self, tag: int) -> None:
         self._ask_at_dot(EventKind.WORK, tag)
@@ -526,10 +522,7 @@ class ClientTerminal:
         return self._now
 
     def file(self, tag: int) -> FileState:
-        file = self._files.get(tag)
-        if file is None:
-            file = self._files[tag] = self.client.file(tag)
-        return file
+        return self._files[tag]
 
     @property
     def held(self) -> int:
@@ -566,33 +559,29 @@ class ClientTerminal:
         """Whether an answer is due, to what was asked of a file or of all."""
         return self.file(tag).is_locked or self.is_asking
 
+    @property
+    def runs_line(self) -> bool:
+        """Whether a command line is not answered."""
+        return bool(self._lines)
+
     def is_settled(self, tag: int) -> bool:
         """Whether no answer that is due sets the selection of an open file, and none changes its text but that to a command line which
         works on another: what the user types can be put in at once."""
         if not self.is_open(tag) or tag in self._awaited or (tag == COMMAND and self.locked(tag)):
             return False
-        return not self._line_request or self._works_on not in (None, tag)
+        return tag not in self._lines and None not in self._lines
 
     def is_known(self, tag: int) -> bool:
         return self.file(tag).is_known
 
     def is_open(self, tag: int) -> bool:
-        is_open = self._opened.get(tag)
-        if is_open is None:
-            is_open = self._opened[tag] = self.file(tag).is_open
-        return is_open
+        return self._opened[tag]
 
     def is_changed(self, tag: int) -> bool:
-        is_unsaved = self._unsaved.get(tag, None if tag != COMMAND else False)
-        if is_unsaved is None:
-            is_unsaved = self._unsaved[tag] = self.client.is_unsaved(tag)
-        return is_unsaved
+        return self._unsaved[tag]
 
     def name(self, tag: int) -> str:
-        name = self._names.get(tag)
-        if name is None:
-            name = self._names[tag] = self.client.name(tag)
-        return name
+        return self._names[tag]
 
     @property
     def current(self) -> Optional[int]:

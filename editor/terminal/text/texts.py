@@ -1,7 +1,7 @@
 """The texts that are shown, with word of each change: by the user here, or by the host."""
 from collections import deque
 from operator import itemgetter
-from typing import Callable, Dict, Iterator, List, NamedTuple, Tuple
+from typing import Callable, Dict, Iterator, List, NamedTuple
 
 COMMAND = 0  # the tag of the command file
 COMMAND_NAME = "~~sam~~"  # which the host tells, too
@@ -112,9 +112,6 @@ class Texts:
         """The runes of an open file from a place on, GAP for one that is not loaded."""
         return self.terminal.runes(tag, place, count) if count > 0 else ""
 
-    def dot(self, tag: int) -> Tuple[int, int]:
-        return self.terminal.dot(tag)
-
     def select(self, tag: int, start: int, end: int) -> None:
         """Sets the dot."""
         if self.is_final:
@@ -147,7 +144,7 @@ class Texts:
                 self.left = runes[at + MOST_TYPED :]
             self.terminal.act()
         else:
-            start, end = self.dot(tag)
+            start, end = self.terminal.dot(tag)
             if not self.edit(tag, start, end, runes):
                 return
             self.select(tag, start + len(runes), start + len(runes))

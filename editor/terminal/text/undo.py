@@ -25,10 +25,6 @@ class Step:
             self._later = []
         return self._changes
 
-    @changes.setter
-    def changes(self, changes: List[Change]) -> None:
-        self._changes, self._later = changes, []
-
     @property
     def is_empty(self) -> bool:
         return not self._changes and not self._later

@@ -56,6 +56,11 @@ def looks(rune: str) -> Tuple[str, int]:
 NOT_ASCII = re.compile(r"[^\x00-\x7f]")
 
 
+def is_plain(text: str) -> bool:
+    """Whether each rune of a text is drawn as it is, in one column."""
+    return text.isprintable() and (text.isascii() or all(looks(rune) == (rune, 1) for rune in set(NOT_ASCII.findall(text))))
+
+
 def has_wide(text: str) -> bool:
     """Whether a rune of a text takes two columns."""
     return not text.isascii() and any(looks(rune)[1] > 1 for rune in NOT_ASCII.findall(text))
@@ -125,7 +130,7 @@ def _new_strips(line: str, width: int, ends: bool) -> Tuple[Strip, ...]:
     """The same."""
     width = max(width, 2)
     stop = len(line) - 1 if ends and line.endswith("\r") else len(line)
-    if (line.isascii() and line[:stop].isprintable()) or line.count(GAP) == stop:
+    if is_plain(line[:stop]) or line.count(GAP) == stop:
         return _plain_strips(line[:stop], width)
     maker = StripMaker(width)
     for at in range(stop):
@@ -138,7 +143,7 @@ _known_strips = lru_cache(maxsize=2048)(_new_strips)
 
 
 def _plain_strips(line: str, width: int) -> Tuple[Strip, ...]:
-    """The same of runes of one column each: all ASCII, or none of them loaded."""
+    """The same of runes of one column each: all plain, or none of them loaded."""
     is_gap = line.startswith(GAP)
     text = SHADE * len(line) if is_gap else line
     strips = []
@@ -390,7 +395,7 @@ def _starts_of_rows(read: Reader, start: int, end: int, width: int) -> List[int]
 
 def fitted(text: str, width: int) -> str:
     """A text of exactly so many columns: cut, or filled with blanks."""
-    if text.isprintable() and (text.isascii() or all(looks(rune) == (rune, 1) for rune in NOT_ASCII.findall(text))):
+    if is_plain(text):
         return text[:width].ljust(width)
     shown, used = "", 0
     for rune in text:

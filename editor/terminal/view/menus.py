@@ -6,6 +6,7 @@ from ..keys.bindings import Input, Key, Mouse, Paste, Text
 Line = Tuple[str, bool]  # a text, and whether it is the chosen one
 
 MENU_PAGE = 10  # entries that a page key of a menu goes by
+STEPS = {"Up": -1, "Down": 1, "Page Up": -MENU_PAGE, "Page Down": MENU_PAGE}  # keys of a menu that go by its entries, and how far
 
 
 class Lines:
@@ -48,27 +49,41 @@ class Menu:
     def title(self) -> str:
         return f"{self.what}: {self.typed}" if self.typed else self.what
 
+    @property
+    def count(self) -> int:
+        """How many can be chosen."""
+        return len(self.shown)
+
+    def texts(self) -> List[str]:
+        """What stands in the lines, of those first that can be chosen."""
+        return ["".join(self.entries[at]) for at in self.shown]
+
     def lines(self, height: int) -> List[Line]:
-        first = max(0, min(self.chosen - height // 2, len(self.shown) - height))
-        shown = list(enumerate(self.shown))[first : first + height]
-        lines = [("".join(self.entries[entry]), at == self.chosen) for at, entry in shown]
-        return lines + [("", False)] * (min(height, len(self.entries)) - len(lines))
+        texts = self.texts()
+        self.chosen = max(0, min(self.chosen, self.count - 1))
+        first = max(0, min(self.chosen - height // 2, len(texts) - height))
+        lines = [(text, at == self.chosen) for at, text in enumerate(texts)][first : first + height]
+        return lines + [("", False)] * (min(height, max(len(self.entries), len(texts))) - len(lines))
 
     def take(self, key: Input) -> bool:
         """As the lines do."""
-        steps = {"Up": -1, "Down": 1, "Page Up": -MENU_PAGE, "Page Down": MENU_PAGE}
-        if isinstance(key, Key) and key.name in steps:
-            self.chosen = max(0, min(self.chosen + steps[key.name], len(self.shown) - 1))
+        if isinstance(key, Key) and key.name in STEPS:
+            self.chosen = max(0, min(self.chosen + STEPS[key.name], self.count - 1))
         elif isinstance(key, Text) and key.runes.isprintable():
             self._narrow(self.typed + key.runes)
-        elif isinstance(key, Text) and key.runes == "\n" and self.shown:
-            self.is_over = True  # also where memory is out
-            self.is_over = self.choose(self.shown[self.chosen])
+        elif isinstance(key, Text):
+            self._enter(key.runes)
         elif isinstance(key, Key) and key.name == "Backspace" and self.typed:
             self._narrow(self.typed[:-1])
         elif isinstance(key, (Key, Paste)):
             self.is_over = True
         return isinstance(key, Paste)
+
+    def _enter(self, key: str) -> None:
+        """Enter or Tab: the first chooses."""
+        if key == "\n" and self.chosen < len(self.shown):
+            self.is_over = True  # also where memory is out
+            self.is_over = self.choose(self.shown[self.chosen])
 
     def _narrow(self, typed: str) -> None:
         """Shows the entries that have what was typed, and chooses the first in which a part of the path begins so; else the first."""

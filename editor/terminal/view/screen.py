@@ -409,12 +409,12 @@ def status(editor: Editor, link: PersistentSession) -> str:
         parts.append("HOST LOST")
     elif editor.has_details:
         parts.append(locks_of(editor))
-    is_broken = way.is_broken and not editor.is_lost
+    is_broken = way.line.is_broken and not editor.is_lost
     if is_broken:
         parts.append(way.line.told)
     parts += counts_of(editor, link)
     if way.is_late and not editor.is_lost and not is_broken:
-        parts.append(f"no answer for {int(way.silence)} s")
+        parts.append(f"no answer for {int(way.line.silence)} s")
     return " | ".join(parts)
 
 
@@ -437,7 +437,7 @@ def counts_of(editor: Editor, link: PersistentSession) -> List[str]:
         return ["keys wait"] if editor.deferred else []
     held = terminal.held + len(editor.deferred)
     counts = [f"{name} {count}" for name, count in (("held", held), ("unsent", terminal.unsent), ("waiting", len(link.waiting))) if count]
-    is_told = way.told > 0 and not editor.is_lost and not way.is_broken
+    is_told = way.told > 0 and not editor.is_lost and not way.line.is_broken
     return counts + ([f"{way.told} on the way"] if is_told else [])
 
 

@@ -98,7 +98,7 @@ class Window:
 
     @property
     def dot(self) -> Tuple[int, int]:
-        return self.texts.dot(self.tag)
+        return self.terminal.dot(self.tag)
 
     @property
     def caret(self) -> int:

@@ -10,16 +10,15 @@ import threading
 import time
 from pathlib import Path
 
-from checks import Failed, Skipped
+from checks import Failed, Skipped, expect_cheap
 
 from .fuzz import Run
 from .messages import NoteCode, not_saved, replacing
 from .model import Model
 from .pairs import LONG as MANY_LINES
 from .pairs import Line, in_a_small_window, loads_of, opened, with_line
-from .slow_line import QUIET_LOOP, least_loop
 from .stalled_line import MOST_FOR_A_KEY
-from .support import COMMAND_WINDOW, LINK, READ_AFTER, SAMHOST, SAMHOST_WORD, STATE, Session, expect, host_that, made, wait_for_text
+from .support import COMMAND_WINDOW, LINK, READ_AFTER, SAMHOST, SAMHOST_WORD, SECONDS, STATE, Session, expect, host_that, made, wait_for_text
 from .support import wait_until
 
 MOST_LOADED = 30_000  # runes at once
@@ -49,8 +48,8 @@ def check_nothing_is_loaded_without_a_line(folder):
     expect(pair.host.text(1) == "x" + MANY_LINES, "the host has another text")
 
 
-def check_long_text_beside_keys(folder):
-    """While the line is lost a long text is written here as it stands, and what this process does for it takes less than a key may."""
+def cost_of_a_copy(folder):
+    """The seconds of the processor that this process takes to have a long text written here, as it stands, while the line is lost."""
     before = os.getcwd()
     pair, editor, key, text, line = with_line("some words\n" * 80_000)
     while (gap := pair.terminal.first_gap(1)) is not None:
@@ -70,13 +69,17 @@ def check_long_text_beside_keys(folder):
         path = folder / "file0.sam-here"
         wait_until(lambda: path.exists() and path.stat().st_size >= len(wanted), lambda: f"it writes {list(folder.iterdir())}")
         expect(path.read_text() == wanted, f"it writes a text that begins with {path.read_text()[:20]!r}")
-        slowness = max(1, least_loop() / QUIET_LOOP)
-        expect(cost < MOST_FOR_A_KEY * slowness, f"it costs {cost * 1000:.1f} ms, {slowness:.1f} times slowed")
         line.is_broken, line.silence = False, 0.0
         pair.finish()
         wait_until(lambda: not path.exists(), "it stays though the line is back")
+        return cost
     finally:
         os.chdir(before)
+
+
+def check_long_text_beside_keys(folder):
+    """A long text is written here while the line is lost, and that takes less of this process than a key may."""
+    expect_cheap(lambda: cost_of_a_copy(folder), MOST_FOR_A_KEY, "a copy")
 
 
 def check_slices(folder):
@@ -96,7 +99,8 @@ class BrokenRun(Run):
     HOW = (signal.SIGKILL, signal.SIGTERM, signal.SIGSTOP)
     LONG_PAUSE, STEADY = 4, 1.0  # seconds: after such a pause a connection stands for so long, so that pauses begin anew
     # What samterm says of a key that asks the host, once the line is lost for seconds; of Enter in a menu that is no matter, as it goes on.
-    REFUSED = re.compile(r"(?<!Enter )can't act until the line is back|the command line stays")
+    # What is asked of text that goes and is not loaded is answered by no key.
+    REFUSED = re.compile(r"(?<!Enter )can't act until the line is back|the command line stays|characters of it are not loaded")
     EACH = 0.1  # seconds, after each of which it is looked whether that is said: it stands there for longer
 
     def __init__(self, seed):
@@ -202,7 +206,7 @@ def check_random_breaks(folder):
 
 
 def check_typing_on_a_stopped_line(folder):
-    """While the line stands still each key on loaded text shows at once; when it goes on, the host has all."""
+    """While the line stands still each key on loaded text shows; when it goes on, the host has all."""
     (path,) = made(folder, a=LONG)
     with Session(folder, "a.txt", stays=True, width=160) as session:
         session.wait_for("line 1 ")
@@ -210,14 +214,11 @@ def check_typing_on_a_stopped_line(folder):
         model = Model(LONG, 160)
         wait_until_loaded(session)
         with session.stopped_line():
-            slowest = 0.0
-            until, count = time.monotonic() + 5, 0
-            while time.monotonic() < until:
-                start, rune = time.monotonic(), "abcdefghij"[count % 10]
+            for count in range(60):
+                rune = "abcdefghij"[count % 10]
                 session.type(rune)
                 model.type(rune)
-                wait_until(lambda: f"{len(model.text)}, line" in session.status(), lambda: f"{rune} doesn't show: {session.status()}", 2)
-                slowest, count = max(slowest, time.monotonic() - start), count + 1
+                wait_until(lambda: f"{len(model.text)}, line" in session.status(), lambda: f"{rune} doesn't show: {session.status()}")
                 if count == 20:
                     session.keys("C-Home", "S-End", "C-x", "Down", "C-v", "C-z", "C-r")
                     for act in (model.first, lambda: model.end(True), model.cut, lambda: model.down(False), model.paste):
@@ -229,7 +230,6 @@ def check_typing_on_a_stopped_line(folder):
             model.type("!")
             expect(path.read_text() == LONG, "it is written already: this test is wrong")
         wait_for_text(path, model.text)
-        expect(slowest < 1.0, f"a key took {slowest:.2f} s")
         session.leave()
 
 
@@ -252,7 +252,7 @@ def check_address_gone(folder):
     (folder / "a.txt").write_text("text\n")
     own = {**os.environ, "TMPDIR": str(folder), "XDG_STATE_HOME": str(folder / STATE)}
     words = [*apart, sys.executable, str(Path(__file__).with_name("network_change.py")), SAMHOST]
-    ran = subprocess.run(words, cwd=folder, env=own, capture_output=True, text=True, timeout=60)
+    ran = subprocess.run(words, cwd=folder, env=own, capture_output=True, text=True, timeout=SECONDS)
     seconds = float(ran.stdout.split()[-1]) if ran.returncode == 0 else ran.stderr
     expect(isinstance(seconds, float) and 2 <= seconds < 9, f"another line is there after {seconds} seconds")
 
@@ -530,7 +530,7 @@ def check_wished_file(folder):
         session.wait_for("one")
         session.wait_for_quiet()
         environment = {**os.environ, "XDG_STATE_HOME": str(folder / STATE)}
-        subprocess.run([SAMHOST, "--open", "bee.txt", "+3"], cwd=folder, env=environment, check=True, timeout=20)
+        subprocess.run([SAMHOST, "--open", "bee.txt", "+3"], cwd=folder, env=environment, check=True, timeout=SECONDS)
         session.wait_to_go_to("bee.txt")
         session.wait_for("14,21 of 56")
         session.leave()

@@ -1,8 +1,7 @@
 """Keys of one file, while those of another wait for the host."""
 import random
 
-from .pairs import in_a_small_window, opened
-from .questions import kept_texts
+from .pairs import Kept, in_a_small_window, opened
 from .support import expect
 
 RESIZING = (54, 187, 497, 623, 886, 1104)  # seeds of random keys among which F8 comes while output is under way, and then a click
@@ -203,6 +202,32 @@ def check_line_that_leaves(folder):
     expect(not editor.is_over and got == [".xone\n", "two\n", "zthree\n"], f"it leaves, or the texts are {got}")
 
 
+def check_search_beside_a_command_line(folder):
+    """While a command line is not answered the host is asked for a search in another file: what is typed in the first comes after its line
+    all the same."""
+    pair, editor, key, text = opened("one two\n", "two one\n")
+    go_to(pair, 1)
+    searches = key("^S"), text("one"), text("\n")
+    for each in (key("Esc"), text(",x/two/c/2/\n"), *[key("^P")] * 2, *searches, *[key("^P")] * 2, text("x")):
+        editor.take(each)
+    expect(shown(pair, 1) == "one two\n", f"what is typed shows already: {shown(pair, 1)!r}")
+    pair.finish()
+    got = [pair.host.text(tag) for tag in (1, 2)]
+    expect(got == ["one 2x\n", "two one\n"] and editor.window_of(2).dot == (4, 7), f"the texts are {got}")
+    pair.check()
+
+
+def check_two_searches_beside_a_begun_line(folder):
+    """Of two quick searches the second comes after what the first has printed: a command line that was begun stays one by itself."""
+    pair, editor, key, text = opened("one\n", "two\n")
+    go_to(pair, 1)
+    pair.press(key("Esc"), text("draft"), key("Esc"))
+    for each in (key("^S"), text("zz"), text("\n"), key("^P"), key("^S"), text("yy"), text("\n")):
+        editor.take(each)
+    pair.finish()
+    expect(pair.host.text(0) == "/zz/\n? search\n/yy/\n? search\ndraft", f"the command window has {pair.host.text(0)!r}")
+
+
 def check_reload_beside_a_locked_file(folder):
     """^U waits until no answer is due, and holds back its own file alone."""
     pair, editor, key, text = beside_a_locked_file()
@@ -232,6 +257,19 @@ def check_what_files_share(folder):
     expect(pair.host.text(2) == "one\n!\n", f"the second file has {pair.host.text(2)!r}")
 
 
+def check_clipboard_while_it_is_asked_for(folder):
+    """While the host is asked for what another terminal has copied, another file's `^V` waits for that, and so does its `^X`: what was cut
+    is what is pasted next."""
+    for names, wanted in ((("^V",), "pasted pasted two\n"), (("Shift-Right", "^X", "^End"), "wo\nt")):
+        pair, editor, key, text = locked("one\n", "two\n", name="^V")
+        for name in ("^P", *names):
+            editor.take(key(name))
+        pair.finish()
+        pair.press(key("^V"))
+        got = [pair.host.text(tag) for tag in (1, 2)]
+        expect(got == [".pasted one\n", wanted], f"{names}: the texts are {got}")
+
+
 def check_typed_text_of_each_file_is_kept(folder):
     """What was typed into files that wait when the host is lost is kept, of each by itself."""
     pair, editor, key, text = locked("one\n", "two\n")
@@ -239,11 +277,11 @@ def check_typed_text_of_each_file_is_kept(folder):
         editor.take(each)
     pair.terminal.look(2)
     editor.take(text("second"))
-    with kept_texts() as kept:
+    with Kept() as kept:
         editor.lose("the host is gone")
-    typed = [text for name, text in kept if name == "typed"]
-    expect(typed == ["first", "second"], f"it keeps {kept}")
-    expect(not any("first" in text or "second" in text for name, text in kept if name != "typed"), f"it keeps {kept}")
+    typed = [text for name, text in kept.texts if name == "typed"]
+    expect(typed == ["first", "second"], f"it keeps {kept.texts}")
+    expect(not any("first" in text or "second" in text for name, text in kept.texts if name != "typed"), f"it keeps {kept.texts}")
 
 
 def check_question_beside_a_late_key(folder):

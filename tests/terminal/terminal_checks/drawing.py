@@ -3,9 +3,11 @@ import re
 import time
 from types import SimpleNamespace
 
+from checks import expect_sleep
+
 from .pairs import opened
 from .stalled_line import OnTerminal
-from .support import LONG_LOAD, Session, expect, expect_sleep, made, wait_for_text, wait_until
+from .support import LONG_LOAD, Session, expect, made, wait_for_text, wait_until
 
 
 def check_runes(folder):
@@ -25,6 +27,25 @@ def check_runes(folder):
         session.keys("Left", "Delete")
         session.wait_for("caf|")
         session.leave_unwritten()
+
+
+def check_rows_of_letters(folder):
+    """A long line of letters is cut into rows as a whole, also where they aren't ASCII; letter by letter the rows are the same."""
+    from terminal.view import layout
+
+    def rows(strips):
+        return [(strip.start, strip.end, [*strip.offsets], [*strip.columns], [*strip.texts], strip.width) for strip in strips]
+
+    for width in (7, 80):
+        line, maker, add = "größer als été " * 20, layout.StripMaker(width), layout.StripMaker.add
+        for at, rune in enumerate(line):
+            maker.add(at, rune)
+        maker.finish(len(line))
+        layout.StripMaker.add = None
+        try:
+            expect(rows(layout.strips_of(line, width, True)) == rows(maker.strips), f"{width} columns: the rows differ")
+        finally:
+            layout.StripMaker.add = add
 
 
 def check_c_locale(folder):
@@ -191,7 +212,7 @@ def check_sleeps(folder):
         session.wait_for("one")
         session.type("x")
         session.wait_for_quiet()
-        expect_sleep(session)
+        expect_sleep(session.processes().values())
         session.leave_unwritten()
 
 

@@ -155,11 +155,11 @@ def check_no_room_anywhere(folder):
 
 
 def check_named_as_its_copy(folder):
-    """A file that is named as the copy of its text, and written, is no copy any more."""
+    """A file that is named as the copy of its text, and written once that was asked, is no copy any more."""
     made(folder, a="one\n")
     (folder / "d").mkdir()  # no file can be written there
     copy = folder / "d.sam-saved"
-    with Session(folder, "a.txt") as session:
+    with Session(folder, "a.txt", width=140) as session:
         session.wait_for("one")
         session.rename("d")
         session.type("x")
@@ -168,26 +168,31 @@ def check_named_as_its_copy(folder):
         session.rename(copy.name)
         session.type("y")
         session.keys("C-w")
+        session.answer("^W again replaces it", "C-w")
         wait_for_text(copy, "xyone\n")
+        wait_until(lambda: not session.shows(f"* {copy.name}"), "the file is still marked as changed")
         session.leave()
     expect(copy.exists() and copy.read_text() == "xyone\n", "the text is lost")
 
 
 def check_written_over_a_copy(folder):
-    """Another file that is written over the copy of a text stays when that text is written."""
+    """Another file that is written over the copy of a text, once that was asked, stays when that text is written."""
     made(folder, a="one\n", b="two\n")
     (folder / "d").mkdir()
     copy = folder / "d.sam-saved"
-    with Session(folder, "a.txt", "b.txt") as session:
+    with Session(folder, "a.txt", "b.txt", width=140) as session:
         session.wait_for("one")
         session.rename("d")
         session.keys("C-w")
         wait_for_text(copy, "one\n")
+        session.read("not written: d")
         session.keys("C-t")
         session.wait_for("two")
         session.rename(copy.name)
         session.keys("C-w")
+        session.answer("^W again replaces it", "C-w")
         wait_for_text(copy, "two\n")
+        expect((folder / "d.sam-saved.sam-theirs").read_text() == "one\n", "the text that stood there is lost")
         session.keys("C-p", "C-p")
         session.wait_to_go_to("d")
         session.rename("c.txt")

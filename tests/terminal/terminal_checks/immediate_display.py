@@ -54,7 +54,6 @@ def slow(*texts, size=(20, 80), speed=1_000_000, each_way=0.3, seed=1):
     ends.pair = pair
     pair.editor.arrange(*size)
     line = pair.take_line(Line())
-    line.round_trip = 2 * each_way
     pair.speed, pair.each_way, pair.coming, pair.free_at = speed, each_way, [], 0.0
     return pair
 

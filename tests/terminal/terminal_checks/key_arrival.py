@@ -5,12 +5,11 @@ import time
 from checks import Skipped
 
 from .model import Model
-from .pairs import opened
+from .pairs import KNOWN_LATE, opened
 from .support import COMMAND_WINDOW, Session, expect, made, wait_until
 
 ENDS = ((2_700, (24, 80)), (10_000, (50, 80)), (20_000, (24, 80)))  # of long lines, and the screen
 SELECTING = ("left", "right", "up", "down", "home", "end", "word_left", "word_right")
-KNOWN_LATE = 4  # seconds without an answer after which a key that needs one may be refused
 NAMES = {"word_left": "^Left", "word_right": "^Right", "first": "^Home", "last": "^End"}
 
 
@@ -163,6 +162,17 @@ def check_lines_at_once(folder):
     wanted = "  begin\n  one();\n  \ttwo();\n  \t" + "word " * 30 + "\n  \ty\n"
     expect(ends[0][0] == wanted, f"one by one it is {ends[0][0]!r}")
     expect(ends[0] == ends[1] == ends[2], f"at once it is {ends[1]}, or {ends[2]}, one by one {ends[0]}")
+
+
+def check_lines_without_room(folder):
+    """Of lines that come at once into the command window none runs behind one that has no room there: they come back together."""
+    for before in ("", "2\n"):
+        pair, editor, key, text = opened("one\ntwo\n")
+        lines = "x" * 1_000_000 + "\n,d\n"
+        pair.press(key("Esc"), pair.keys.Paste(before + lines))
+        expect(pair.host.text(1) == "one\ntwo\n", f"behind {before!r} a line runs: {pair.host.text(1)!r}")
+        expect("^V has what you typed" in editor.message, f"behind {before!r} it tells {editor.message!r}")
+        expect(editor.cut_text == lines, f"behind {before!r} {len(editor.cut_text)} characters come back, wanted {len(lines)}")
 
 
 def check_esc_while_held_up(folder):

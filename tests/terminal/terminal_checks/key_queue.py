@@ -1,5 +1,6 @@
 """Keys that wait, menus, the mouse, and what is read without a screen."""
 import random
+import sys
 
 from .pairs import Pair, opened, some_keys
 from .support import Failed, expect
@@ -373,4 +374,24 @@ def check_no_memory(folder):
     is_short[0] = False
     line._hear(b"two")
     expect(taken == [b"one two"], f"it takes {taken}")
+    line.close(print, seconds=0)
+
+
+def check_no_memory_at_the_start(folder):
+    """So it is while the host's stream is to begin: they are taken once."""
+    from sulgrevad import NoMemory, Status
+    from terminal.line import persistent_session
+
+    host = [sys.executable, "-c", "import os, time; os.write(1, b'hello'); time.sleep(100)"]
+    line, taken, refused = persistent_session.PersistentSession(host, lambda name: []), [], []
+
+    def receive(attempt, data, now):
+        if not refused:
+            refused.append(data)
+            raise NoMemory(Status.NO_MEMORY)
+        taken.append(data)
+
+    line.client.receive = receive
+    line.wait_for_stream(print, lambda: bool(taken))
+    expect(taken == [b"hello"], f"it takes {taken}")
     line.close(print, seconds=0)

@@ -518,6 +518,32 @@ def check_no_room_to_paste(folder):
     expect(len(pair.host.text(1)) == 600_000 and editor.message == "", f"it doesn't paste what has room: {editor.message!r}")
 
 
+def check_room_under_a_lock(folder):
+    """What goes while its file is locked takes up room until the host answers: a key for whose text there is none until then waits."""
+    lines = "line\n" * 120_000
+    for names, wanted in ((("^X", "^V"), lines), (("^X", "^Z"), lines), (("^X", "^Z", "^R"), ""), (("^X", "^Z", "x"), lines + "x")):
+        pair, editor, key, text = opened(lines)
+        pair.press(key("^A"), key("^C"))  # which loads it
+        for name in ("^W", *names):
+            editor.take(text(name) if name == "x" else key(name))
+        expect(editor.deferred and "more than" not in editor.message, f"{names}: {editor.deferred} wait, it tells {editor.message!r}")
+        pair.finish()
+        expect(pair.host.text(1) == wanted, f"{names}: the text has {len(pair.host.text(1))} characters, wanted {len(wanted)}")
+        pair.check()
+
+
+def check_full_command_window(folder):
+    """Of a command line that has no room in the command window no part is typed, so none runs."""
+    pair, editor, key, text = opened("one\n")
+    pair.press(key("Esc"), text("x"))
+    editor.command.drop_front = lambda most: None  # as where the user looks at its front
+    while (room := 1_000_000 - editor.command.length) > 300:
+        pair.press(text("y" * min(room - 300, 100_000)))
+    pair.press(text("\n"), pair.keys.Paste("x" * 512 + ",d\n"))
+    expect(pair.host.text(1) == "one\n", f"a part of the line has run: the text is {pair.host.text(1)!r}")
+    expect("more than 1,000,000 characters" in editor.message, f"it tells {editor.message!r}")
+
+
 def check_no_room_for_a_paste_of_the_screen(folder):
     """So does a paste of the user's terminal: not even its end comes in."""
     for count, is_room in ((601, False), (600, True)):
@@ -582,3 +608,28 @@ def check_carriage_returns(folder):
         session.keys("C-w")
         wait_until(lambda: path.read_bytes() == b"one\r\nx\r\ntw", lambda: f"the file has {path.read_bytes()}")
         session.leave()
+
+
+def check_long_numbers(folder):
+    """A number of any length, in the command window and in what a terminal sends, ends nothing. A long one is the wrong address that it
+    is, or with zeros before it the right one."""
+    from terminal.keys.decoder import Decoder
+
+    lines = "".join(f"line {at}\n" for at in range(1, 30_001))
+    long = "9" * 5000
+    for line in (long, f"{long}d", f"1,{long}d", f"{long},2d", f",x/{long}/d", "8" * 8):
+        pair, editor, key, text = opened(lines)
+        pair.press(key("Esc"), text(f"{line}\n"))
+        if "Enter again" in editor.message:  # it may take out what is not loaded
+            pair.press(text("\n"))
+        expect(pair.host.text(1) == lines and not editor.is_lost, f"{line[:20]}..: the text is changed, or {editor.message!r}")
+        expect("?" in pair.host.text(0) or "x/" in line, f"{line[:20]}..: the host takes it: {pair.host.text(0)[-40:]!r}")
+    pair, editor, key, text = opened(lines)
+    pair.press(key("Esc"), text("0" * 5000 + "20000\n"), key("Esc"))
+    window = editor.files[0]
+    expect(editor.numbers.line(1, window.dot[0]) == 20_000, f"the line is {editor.numbers.line(1, window.dot[0])}, at {window.dot}")
+    for form in (f"[{long}~", f"[{long}u", f"[{long}A", f"[1;{long}A", f"[{long}$", f"[<{long};1;1M", f"O{long}P", f"[27;5;{long}~"):
+        got = Decoder().feed(b"\x1b" + form.encode() + b"x", 0.0)
+        expect(tuple(got[-1]) == ("x",) and len(got) <= 2, f"Esc {form[:9]}.. is taken for {got}")
+    zeros = Decoder().feed(b"\x1b[" + b"0" * 5000 + b"3;0005~", 0.0)
+    expect([tuple(key) for key in zeros] == [("^Delete",)], f"a number with zeros before it is taken for {zeros}")

@@ -1,36 +1,16 @@
 """That no text is dropped: what is written here when the host is gone or can't have saved all, and what else may lose one."""
 import contextlib
 import errno
-import io
 import os
 import random
 import shutil
 import signal
-import sys
-import time
 from pathlib import Path
+from unittest import mock
 
 from .messages import aside, hidden, lost, not_saved
-from .pairs import Pair, in_a_small_window, opened, with_line
-from .support import LINK, SAMHOST, SECONDS, STATE, Failed, Session, change_two, expect, made, stat_of, wait_for_text, wait_until
-
-
-class Kept:
-    """Names and texts that are written here, in place of files."""
-
-    def __enter__(self):
-        from terminal.files import local_backup
-
-        self.local_backup, self.before, self.texts = local_backup, local_backup.keep, []
-        local_backup.keep = lambda name, text: self.texts.append((name.lstrip("\0"), text)) or "/somewhere"
-        return self
-
-    def __exit__(self, *_):
-        self.local_backup.keep = self.before
-
-    def expect(self, wanted, told):
-        expect(sorted(self.texts) == sorted(wanted), f"{told}: it keeps {self.texts}, wanted {wanted}")
-
+from .pairs import Kept, Pair, opened, with_line
+from .support import LINK, SAMHOST, STATE, Session, change_two, expect, made, stat_of, wait_for_text, wait_until
 
 
 # ---- A host that is lost
@@ -82,35 +62,6 @@ def check_begun_line_while_it_searches(folder):
         with Kept() as kept:
             editor.lose("the host is gone")
         kept.expect([("command", begun if is_answered else f"/b/\n{begun}")], f"{begun[:9]!r}, answered: {is_answered}")
-
-
-def check_cut_text(folder):
-    """What was cut is written here, unless it was pasted since (a short text at once, also where the host says nothing), something else was
-    copied, or the user leaves."""
-    for names, answered, wanted in (
-        (("^X",), True, ["ab"]), (("^X", "End", "^V"), True, []), (("^X", "End", "^V"), False, []), (("^C",), True, []),
-        (("^X", "Shift-Right", "^C"), True, []), (("^X", "^C"), True, ["ab"]), (("^X", "Shift-Right", "^X"), True, ["c"]),
-    ):  # fmt: skip
-        pair, editor, key, _ = opened("abc\n")
-        pair.press(key("Shift-Right"), key("Shift-Right"))
-        for name in names:
-            editor.take(key(name))
-            if answered:
-                pair.finish()
-        with Kept() as kept:
-            editor.lose("the host is gone")
-        cut = [text for name, text in kept.texts if name == "cut"]
-        expect(cut == wanted, f"{names}, answered: {answered}: it keeps {cut}, wanted {wanted}")
-    for leaves in (True, False):
-        pair, editor, key, _ = opened("abc\n")
-        pair.press(key("Shift-Right"), key("^X"))
-        editor.is_over = leaves
-        ended(pair, None, (aside(1),), None).expect([] if leaves else [("cut", "a")], f"the user leaves: {leaves}")
-    for is_clean in (True, False):  # a host that ends with its line has saved what was cut, if it ends well
-        pair, editor, key, _ = opened("abc\n")
-        pair.press(key("Shift-Right"), key("^X"))
-        told = (aside(1),)
-        ended(pair, None, told, 0 if is_clean else 255).expect([] if is_clean else [("cut", "a")], f"the host ends well: {is_clean}")
 
 
 def check_what_waits_while_the_host_is_lost(folder):
@@ -214,17 +165,6 @@ def check_file_called_typed(folder):
     with Kept() as kept:
         editor.lose("the host is gone")
     kept.expect([("typed", "xa\n"), ("typed", "after"), ("command", "f typed\n")], "a file called typed")
-
-
-def check_typed_before_it_opens(folder):
-    """What is typed before the first file is open is written here where the host is lost then."""
-    pair = Pair(opened("")[0].random, ["end\n"])
-    pair.trip()
-    expect(pair.editor.active.tag == 1 and not pair.terminal.is_open(1), "this test is wrong: the file is open")
-    pair.editor.take(pair.keys.Text("early"))
-    with Kept() as kept:
-        pair.editor.lose("the host is gone")
-    kept.expect([("typed", "early")], "typed early")
 
 
 def check_long_names_here(folder):
@@ -387,141 +327,108 @@ def check_copy_of_an_unreadable_text(folder):
     pair.terminal.runes = broken
     editor.lose("the host is gone")
     del pair.terminal.runes
-    wanted = f"the text of file0 is lost: no room; {copy} has it as it was before"
+    wanted = f"what is loaded of file0 is lost: no room; {copy} has it as it was before"
     expect(editor.kept_here == [wanted] and copy.read_text() == "xa\n", f"it tells {editor.kept_here}; the copy is there: {copy.exists()}")
     expect(editor.keeping.keep_again(editor.kept_here) == [f"what is loaded of file0 is here in {copy}"], "it isn't tried again")
     expect([path.name for path in copy.parent.iterdir()] == [copy.name] and copy.read_text() == "xya\n", f"it has {copy.read_text()!r}")
 
 
-# ---- The end
+def check_copies_of_what_is_in_no_open_text(folder):
+    """While the line is lost a text that was closed unwritten is kept until the host has it, and what was typed into each file and waits
+    until it is put in: then it is in that file's copy, and in no other."""
+    at_home(folder)
+    pair, editor, key, text, line = with_line("a\n", "b\n", "c\n")
+
+    def kept(is_broken):
+        line.is_broken, line.has_all = is_broken, not is_broken
+        if is_broken:
+            copy_here(editor)
+        else:
+            pair.finish()
+        return {path.name: path.read_text() for path in folder.glob("*.sam-here*")}
+
+    pair.press(text("z"), key("^K"), key("^K"))
+    expect(editor.tags == [1, 2], f"this test is wrong: the files are {editor.tags}")
+    for window, typed in zip(editor.files, ("first", "second")):
+        editor.go_to(window)
+        pair.terminal.look(window.tag)
+        editor.take(text(typed))
+    there = kept(True)
+    typed = [there.pop(name, None) for name in ("typed.sam-here", "typed.sam-here.2")]
+    expect(there == {"file2.sam-here": "zc\n"} and sorted(map(str, typed)) == ["first", "second"], f"there are {there}, {typed}")
+    editor.hear(aside(3))
+    expect(kept(False) == {}, "what the host has stays")
+    expect(not editor.deferred, "this test is wrong: what was typed waits")
+    expect(kept(True) == {f"file{at}.sam-here": pair.host.text(at + 1) for at in range(2)}, f"there are {kept(True)}")
+    pair.terminal.look(1)
+    editor.go_to(editor.files[0])
+    editor.take(text("third"))
+    expect(kept(True).get("typed.sam-here") == "third", f"there are {kept(True)}")
+    line.is_broken = False
+    pair.finish()
+    there = kept(True)
+    expect("typed.sam-here" not in there and "third" in there["file0.sam-here"], f"there are {there}")
 
 
-class Ending:
-    """The link of a session that ends. The host takes as many bytes as it is given time for, tells some lines, and ends with a status."""
-
-    stays = is_lost = is_broken = False
-    ended_with, silence, late_after, round_trip = None, 0.0, 1.0, 0.0
-
-    def __init__(self, pair, taken, lines, status):
-        self.pair, self.taken, self.lines, self.status = pair, taken, lines, status
-        self.waiting = bytearray(pair.up)
-
-    @property
-    def has_all(self):
-        return not self.waiting
-
-    def send(self):
-        self.waiting += self.pair.ends.sent()
-
-    def close(self, hear, go_on=lambda: None, seconds=10):
-        count = len(self.waiting) if self.taken is None else self.taken
-        self.pair.host.feed(bytes(self.waiting[:count]))
-        del self.waiting[:count]
-        self.pair.ends.bring(bytes(self.pair.down) + self.pair.host.take_out())
-        go_on()
-        for line in self.lines:
-            hear(line)
-        return self.status
+def killed_amid(write):
+    """Writes a copy in a process that is killed before its text is on the disk."""
+    process = os.fork()
+    if process == 0:
+        os.fsync = lambda file: os._exit(1)
+        write()
+        os._exit(0)
+    _, status = os.waitpid(process, 0)
+    expect(os.waitstatus_to_exitcode(status) == 1, "this test is wrong: it brings nothing to the disk")
 
 
-def edited(pair, link):
-    """A session that has ended but for its link."""
-    from terminal.session import Session as Edited
-
-    pair.editor.way.line = link
-    return Edited(pair.terminal, link, pair.editor)
-
-
-def ended(pair, taken, lines, status):
-    """What is written here at the end of a session, with what it tells, and its status."""
-    before = signal.getsignal(signal.SIGINT)
-    with Kept() as kept, contextlib.redirect_stderr(io.StringIO()) as told:
-        kept.status = edited(pair, Ending(pair, taken, lines, status))._end()
-    signal.signal(signal.SIGINT, before)
-    kept.told = told.getvalue()
-    return kept
-
-
-def check_end_without_the_last_bytes(folder):
-    """At the end a status of 0 says nothing of what the host has not got: the stream may have been cut between two messages, or a signal
-    may have ended the host. What it is told to have saved then lacks something."""
-    told = (aside(1),)
-    for taken, status, lines, wanted in (
-        (None, 0, told, []), (None, None, told, []), (None, 255, told, []), (None, None, (), [("file0", "xya\n")]),
-        (0, 0, told, [("file0", "xya\n")]), (0, 0, (), [("file0", "xya\n")]), (0, 255, told, [("file0", "xya\n")]),
-        (None, 5, (lost(1),), [("file0", "xya\n")]),
-        (None, 0, (lost(1),), [("file0", "xya\n")]),
-    ):  # fmt: skip
-        pair, editor, _, text = opened("a\n")
-        pair.press(text("x"))
-        editor.take(text("y"))
-        ended(pair, taken, lines, status).expect(wanted, f"{taken} bytes taken, status {status}, told {lines}")
-
-
-def check_interrupts_at_the_end(folder):
-    """`^C` at the end doesn't wait for the host any longer. A second one doesn't stop what is written here."""
+def check_kill_amid_a_copy(folder):
+    """Of a copy that is not on the disk yet, as where samterm is killed or the power fails amid it, nothing is offered; after a day nothing
+    is left."""
     from terminal.files import local_backup
 
-    class Hanging(Ending):
-        def close(self, hear, go_on=lambda: None, seconds=10):
-            os.kill(os.getpid(), signal.SIGINT)
-            expect(False, "the first doesn't end the waiting")
-
-    def keep(name, text):
-        os.kill(os.getpid(), signal.SIGINT)
-        return kept(name, text)
-
-    pair, editor, _, text = opened("a\n")
-    pair.press(text("x"))
-    os.chdir(folder)
-    kept, local_backup.keep, before = local_backup.keep, keep, signal.getsignal(signal.SIGINT)
-    try:
-        with contextlib.redirect_stderr(io.StringIO()):
-            edited(pair, Hanging(pair, 0, (), 0))._end()
-    except KeyboardInterrupt as why:
-        raise Failed("the second stops it") from why
-    finally:
-        local_backup.keep = kept
-        signal.signal(signal.SIGINT, before)
-    wait_for_text(folder / "file0.sam-here", "xa\n")
+    at_home(folder)
+    killed_amid(lambda: local_backup.keep("file0", "text"))
+    for is_old in (False, True):
+        _, editor, *_ = opened("a\n")
+        expect(not editor.left.all, f"it offers {[Path(old.path).read_text() for old in editor.left.all]}")
+        left = sorted(path.name for path in folder.glob("*.sam-here*"))
+        expect(left == ([] if is_old else ["file0.sam-here", "file0.sam-here.new"]), f"old: {is_old}, there are {left}")
+        for name in left:
+            os.utime(folder / name, (0, 0))
+    with mock.patch.object(os, "fsync", side_effect=lambda file: brought.append(os.readlink(f"/proc/self/fd/{file}"))):
+        brought = []
+        local_backup.keep("file0", "text")
+    expect(brought[-1:] == [str(folder.resolve())], f"its name is not brought to the disk: {brought}")
 
 
-def check_fault_while_it_is_lost(folder):
-    """What could not be written here when the host was lost, for a fault, is written at the end."""
-    pair, editor, _, text = opened("a\n")
-    pair.press(text("x"))
-    keep_here, editor.keeping.keep_here = editor.keeping.keep_here, lambda *_: 1 // 0
-    with contextlib.suppress(ZeroDivisionError):
-        editor.lose("the host is gone")
-    editor.keeping.keep_here = keep_here
-    ended(pair, 0, (), None).expect([("file0", "xa\n")], "a fault")
+def check_kill_amid_a_renewal(folder):
+    """Of a copy that is renewed as samterm is killed the old text stays, and nothing else once it is renewed again, or removed."""
+    from terminal.files import local_backup
+
+    at_home(folder)
+    path = local_backup.keep("file0", "old")
+    for ends, wanted in ((lambda: local_backup.renew("file0", path, "new"), ["new"]), (lambda: local_backup.remove(path), [])):
+        before = local_backup.read(path)
+        killed_amid(lambda: local_backup.renew("file0", path, "broken off"))
+        expect(local_backup.read(path) == before, f"it has {local_backup.read(path)!r}, wanted {before!r}")
+        ends()
+        texts = [path.read_text() for path in folder.glob("*.sam-here*")]
+        expect(texts == wanted, f"there are {texts}, wanted {wanted}")
 
 
-def check_what_failed_is_tried_again(folder):
-    """What could not be written here when the host was lost is written at the end, once there is room: texts, also of a closed file, what
-    was typed, cut and begun. What was written then is not written again, and nothing is told to be lost that isn't."""
-    texts = [("file0", "xa\n"), ("file1", "yb\n"), ("file2", "zc\n"), ("typed", "waits"), ("command", "$a/draft"), ("cut", "d")]
-    for failing in (["file0", "file1", "file2", "typed", "command", "cut"], ["file1"], ["typed", "cut"]):
-        pair, editor, key, text = opened("a\n", "b\n", "c\n", "de\n")
-        for window, rune in zip(editor.files[:3], "xyz"):
-            editor.go_to(window)
-            pair.press(text(rune))
-        pair.press(key("^K"), key("^K"))
-        editor.go_to(editor.window_of(4))
-        pair.press(key("Shift-Right"), key("^X"), key("^W"), key("Esc"), text("$a/draft"))
-        editor.go_to(editor.window_of(2))
-        pair.terminal.look(2)
-        editor.take(text("waits"))
-        with Kept() as kept:
-            keep = kept.local_backup.keep
-            kept.local_backup.keep = lambda name, text: None if name.lstrip("\0") in failing else keep(name, text)
-            editor.lose("the host is gone")
-        kept.expect([each for each in texts if each[0] not in failing], f"{failing} fail")
-        expect(any("^Q tries again" in line for _, line in editor.notes.unread), f"it tells {editor.notes.unread}")
-        kept = ended(pair, 0, (), None)
-        kept.expect([each for each in texts if each[0] in failing], f"{failing} failed")
-        expect("is lost" not in kept.told and kept.told.count("is here in /somewhere") == len(texts), f"it tells {kept.told}")
-        expect(kept.status == 3, f"the status is {kept.status}")
+def check_copy_of_an_emptied_text(folder):
+    """A text that was emptied while the line was lost is offered as any other."""
+    pair, editor, copy = with_a_copy(folder, "here")
+    for name in ("^A", "Backspace"):
+        editor.take(pair.keys.Key(name))
+    copy_here(editor)
+    expect(copy.read_text() == "", f"the copy has {copy.read_text()!r}")
+    pair, editor, key, text = opened("a\n")
+    pair.press(key("F9"), text("\n"))
+    expect(pair.host.text(1) == "", f"F9 takes {pair.host.text(1)!r}: {editor.message}")
+
+
+# ---- One text of several, and text that comes back
 
 
 def check_fault_in_one_text(folder):
@@ -546,95 +453,8 @@ def check_fault_in_one_text(folder):
         editor.lose("the host is gone")
     kept.expect([("file0", "xa\n"), ("file2", "xc\n"), ("file3", "xd\n"), ("typed", "waits")], "a fault in file1")
     lines = [line for _, line in editor.notes.unread]
-    expect(any("the text of file1 is lost: no room" in line for line in lines), f"it tells {lines}")
+    expect(any("what is loaded of file1 is lost: no room" in line for line in lines), f"it tells {lines}")
     expect(editor.keeping.is_hopeless, "the status doesn't say that a text is lost")
-
-
-def check_paste_broken_off(folder):
-    """A signal ends the session before the end of a paste has come: what has come is saved."""
-    made(folder, a="one\n")
-    with Session(folder, "a.txt") as session:
-        session.wait_for("one")
-        session.tmux("send-keys", "-H", *(f"{byte:x}" for byte in b"\x1b[200~first\nsecond "))
-        time.sleep(0.5)
-        terminal = next(process for name, process in session.processes().items() if name.startswith("python"))
-        os.kill(terminal, signal.SIGTERM)
-        session.wait_for_end(128 + signal.SIGTERM)
-        wait_for_text(folder / "a.txt.sam-saved", "first\nsecond one\n")
-
-
-def check_last_answers(folder):
-    """What the host answers at the end is heard, also once it tells nothing more; and all that waited is sent before."""
-    from terminal.line.host_process import HostProcess
-
-    code = "import os, sys; os.write(2, b'last line\\n'); os.close(2); os.write(1, b'%d bytes' % len(sys.stdin.buffer.read())); sys.exit(7)"
-    lines, answers, link = [], [], HostProcess([sys.executable, "-c", code])
-    link.send(bytes(300_000))
-    expect(len(link.waiting) > 0, "this test is wrong: the pipe takes all at once")
-    got = link.close(lines.append, answers.append, seconds=SECONDS), lines, b"".join(answers), len(link.waiting)
-    expect(got == (7, ["last line"], b"300000 bytes", 0), f"status, lines, answers and what waits are {got}")
-
-
-def check_end_with_a_dropped_text(folder):
-    """A text that was dropped with open eyes is written here only where the host can't have saved it."""
-    for status, lines, wanted in ((0, (), []), (255, (), [("file0", "xa\n")]), (255, (aside(1),), [])):
-        pair, editor, key, text = opened("a\n")
-        pair.press(text("x"), key("^K"), key("^K"))
-        expect(not editor.tags, "this test is wrong: the file is open")
-        ended(pair, None, lines, status).expect(wanted, f"status {status}, told {lines}")
-
-
-def check_no_stray_text(folder):
-    """A text that is again what its file has is neither saved nor written here: not when it is closed, and not at the end."""
-    for closes in (True, False):
-        place = folder / str(closes)
-        place.mkdir()
-        made(place, a="one\n", b="two\n")
-        with Session(place, "a.txt", "b.txt") as session:
-            session.wait_for("one")
-            session.type("x")
-            session.wait_for("xone")
-            session.keys("BSpace")
-            session.wait_for("* a.txt")
-            if closes:
-                session.keys("C-k")
-                session.answer("a.txt was not written", "C-k")
-                wait_until(lambda: not session.rows("a.txt"), "the file stays")
-                session.leave()
-            else:
-                session.leave_unwritten()
-        left = {entry.name for entry in place.iterdir()} - {"a.txt", "b.txt", "status", "stderr", ".tmux"}
-        told = (place / "stderr").read_text()
-        expect(not left and "sam-" not in told, f"closed: {closes}: there are {left}, and it tells {told!r}")
-
-
-# ---- What is told of changes
-
-
-def check_change_without_memory(folder):
-    """Out of memory nothing of what is typed or pasted comes in, and nothing is told of it. It is written here at the end."""
-    from sulgrevad import NoMemory, Status
-
-    def short(*words):
-        raise NoMemory(Status.NO_MEMORY)
-
-    for gone, typed in (("a", "x"), ("a" * 512, "x" * 512 + "y" * 512 + "z"), ("", "xy")):
-        pair, editor, key, _ = opened(gone + "end\n")
-        pair.terminal.select(1, 0, len(gone))
-        pair.finish()
-        told = []
-        editor.texts.listeners.append(told.extend)
-        pair.ends.client.replace = short
-        editor.take(pair.keys.Paste(typed))
-        del pair.ends.client.replace
-        expect("not enough memory" in editor.message, f"this test is wrong: {editor.message!r}")
-        expect(not told, f"{len(gone)} runes go, it tells {told}")
-        pair.finish()
-        expect(pair.host.text(1) == gone + "end\n", f"the text is {pair.host.text(1)!r}")
-        pair.press(key("^Z"))
-        expect("nothing more" in editor.message, f"^Z tells {editor.message!r}")
-        pair.press(pair.keys.Text("more"))
-        ended(pair, None, (aside(1),), 0).expect([("typed", typed)], f"{len(gone)} runes were to go")
 
 
 def check_given_back_without_memory(folder):
@@ -695,38 +515,99 @@ def check_an_old_text_without_room(folder):
     expect(pair.host.text(2) == "b" * 600_000 and editor.left.all == [old], f"what is left is {editor.left.all}")
 
 
-# ---- Numbers, keys and control characters
+# ---- What the next session offers
 
 
-def check_long_numbers(folder):
-    """A number of any length, in the command window and in what a terminal sends, ends nothing. A long one is the wrong address that it
-    is, or with zeros before it the right one."""
-    from terminal.keys.decoder import Decoder
-
-    lines = "".join(f"line {at}\n" for at in range(1, 30_001))
-    long = "9" * 5000
-    for line in (long, f"{long}d", f"1,{long}d", f"{long},2d", f",x/{long}/d", "8" * 8):
-        pair, editor, key, text = opened(lines)
-        pair.press(key("Esc"), text(f"{line}\n"))
-        if "Enter again" in editor.message:  # it may take out what is not loaded
-            pair.press(text("\n"))
-        expect(pair.host.text(1) == lines and not editor.is_lost, f"{line[:20]}..: the text is changed, or {editor.message!r}")
-        expect("?" in pair.host.text(0) or "x/" in line, f"{line[:20]}..: the host takes it: {pair.host.text(0)[-40:]!r}")
-    pair, editor, key, text = opened(lines)
-    pair.press(key("Esc"), text("0" * 5000 + "20000\n"), key("Esc"))
-    window = editor.files[0]
-    expect(editor.numbers.line(1, window.dot[0]) == 20_000, f"the line is {editor.numbers.line(1, window.dot[0])}, at {window.dot}")
-    for form in (f"[{long}~", f"[{long}u", f"[{long}A", f"[1;{long}A", f"[{long}$", f"[<{long};1;1M", f"O{long}P", f"[27;5;{long}~"):
-        got = Decoder().feed(b"\x1b" + form.encode() + b"x", 0.0)
-        expect(tuple(got[-1]) == ("x",) and len(got) <= 2, f"Esc {form[:9]}.. is taken for {got}")
-    zeros = Decoder().feed(b"\x1b[" + b"0" * 5000 + b"3;0005~", 0.0)
-    expect([tuple(key) for key in zeros] == [("^Delete",)], f"a number with zeros before it is taken for {zeros}")
+def at_home(folder):
+    """Has what is written here stand in a folder."""
+    os.environ["XDG_STATE_HOME"] = str(folder / STATE)
+    os.chdir(folder)
 
 
-def check_control_characters(folder):
-    """A line on standard error does nothing to the screen."""
-    from terminal import session
+def choose(pair, words):
+    """Goes to an entry of the menu of F9."""
+    for _ in pair.editor.left.all:
+        if not any(is_chosen and line.startswith(words) for line, is_chosen in pair.editor.menu.lines(9)):
+            pair.press(pair.keys.Key("Down"))
 
-    with contextlib.redirect_stderr(io.StringIO()) as told:
-        session.say("a\x1b[31mb\x7fc\x9bd\x80é豆")
-    expect(told.getvalue() == "a?[31mb?c?d?é豆\n", f"it tells {told.getvalue()!r}")
+
+def check_what_is_no_files_is_offered(folder):
+    """What is no file's is named by the next session, also where nobody told its user: the text of a file without a name, what was typed,
+    cut or begun while the line was lost. F9 has `^V` paste it. What is empty by then is none."""
+    from terminal.files import local_backup
+
+    at_home(folder)
+    pair, editor, key, text, line = with_line("a\n")
+    pair.press(key("^N"), text("draft cut"), key("Shift-^Left"), key("^X"), key("Esc"), text("1,2d"))
+    line.is_broken, line.has_all = True, False
+    copy_here(editor)
+    local_backup.keep(local_backup.TYPED, "")
+    pair, editor, key, text = opened("b\n")
+    told = {line.partition(" is in ")[0] for _, line in editor.notes.unread}
+    wanted = {"the text of a file without a name", "what was cut and not pasted", "a command line that was begun"}
+    expect(told == wanted, f"it tells {told}")
+    for words in told:
+        pair.press(key("F9"))
+        choose(pair, words)
+        pair.press(text("\n"), key("^V"))
+    pasted = pair.host.text(1)
+    expect(all(each in pasted for each in ("draft ", "cut", "1,2d")) and len(pasted) == 15, f"it pastes {pasted!r}")
+
+
+def check_left_of_a_file_that_joins(folder):
+    """Of a file that is opened later it is told, too, that a text of it was written here; and of several texts F9 has the newest first."""
+    from terminal.files import local_backup
+
+    at_home(folder)
+    for at, kept in enumerate(("older", "newest", "old")):
+        os.utime(local_backup.keep("other", kept), (0, (1, 3, 2)[at] * 1_000_000))
+    pair, editor, key, text = opened("one\n")
+    expect(not editor.left.all, f"this test is wrong: there are {editor.left.all}")
+    pair.host.add_file("other", "two\n")
+    pair.terminal.offer_version(2)
+    pair.finish()
+    pair.press(key("^O"), text("other"), text("\n"))
+    lines = [line for _, line in editor.notes.unread]
+    expect(any(line.startswith("of other a text was written here") for line in lines), f"it tells {lines}")
+    pair.press(key("F9"), text("\n"))
+    expect(pair.host.text(2) == "newest", f"F9 takes {pair.host.text(2)!r}")
+
+
+def check_newer_text_of_the_host_stays(folder):
+    """A text that was written here, whose gap is filled from what the host saved, is dropped with that once it is written; but one of the
+    host stays that is newer, as another terminal may have gone on with it."""
+    from terminal.files import local_backup
+
+    at_home(folder)
+    first, last = "x" * 100, "y" * 100
+    for when, stays in (("2020-01-01 00:00:00", False), ("2999-01-01 00:00:00", True)):
+        path = Path(local_backup.keep("a.txt", f"late {first}[3 characters that were not loaded]{last}"))
+        whole = f"{first}abc{last}"
+        pair = Pair(random.Random(1), (whole, whole), names=["a.txt", f"~~left~~ 1 + {when}"])
+        editor, key, text = pair.editor, pair.keys.Key, pair.keys.Text
+        editor.arrange(60, 200)
+        editor.hear(hidden(2))
+        pair.finish(3)
+        pair.press(key("F9"))
+        choose(pair, "a.txt: written here")
+        pair.press(text("\n"), text("\n"), key("^W"))
+        expect(pair.host.text(1) == f"late {whole}" and not path.exists(), f"{when}: {editor.message!r}, {pair.host.text(1)[:9]!r}")
+        expect((2 in editor.left.tags) == stays, f"{when}: F9 has {editor.left.all}")
+        if stays:
+            expect(pair.host.text(2) == whole, f"{when}: the host has {pair.host.text(2)[:9]!r}")
+
+
+def check_left_of_a_file_that_is_opened_again(folder):
+    """A text that was written here is taken into its file, too, once that was closed and is opened again."""
+    from terminal.files import local_backup
+
+    at_home(folder)
+    local_backup.keep("file1", "older")
+    pair, editor, key, text = opened("one\n", "two\n")
+    pair.press(key("^K"))
+    expect(editor.tags == [1] and len(editor.left.all) == 1, f"this test is wrong: {editor.tags}, {editor.left.all}")
+    pair.host.add_file("file1", "two\n")
+    pair.terminal.offer_version(2)
+    pair.finish()
+    pair.press(key("^O"), text("file1"), text("\n"), key("F9"), text("\n"))
+    expect(pair.host.text(3) == "older", f"F9 takes {pair.host.text(3)!r}: {editor.message}")

@@ -3,10 +3,10 @@ import random
 
 from .messages import NoteKind, hidden
 from .model import Model
-from .pairs import Line, Pair, in_a_small_window, with_line
+from .pairs import KNOWN_LATE, LONG, Line, Pair, in_a_small_window, with_line
 from .support import expect
 
-KNOWN_LATE, TOLD = 4, 0.6  # seconds after which the user is told of keys that can't act, and those in which he has read that
+TOLD = 0.6  # seconds in which the user has read what he was told
 
 
 def check_keys_on_a_lost_line(folder):
@@ -70,6 +70,24 @@ def check_keys_of_a_short_break(folder):
         expect(texts[0] == texts[1], f"{keys}: over a break of {seconds} s {texts[1]}, else {texts[0]}")
 
 
+def check_line_behind_a_write_in_a_short_break(folder):
+    """A write that was put off comes before the command line behind it: the file has the text and the name from before that."""
+    for typed in (",d\n", "f other\n"):
+        pair, editor, key, text, line = with_line("one\n")
+        names, written = [], pair.host.written
+        pair.host.written = lambda: [names.append(pair.host.name(tag)) or tag for tag in written()]
+        line.is_broken = True
+        pair.wait(0.2)
+        for each in (text("x"), key("^W"), key("Esc"), text(typed)):
+            editor.take(each)
+        expect(len(editor.deferred) == 1, f"this test is wrong: {editor.deferred} wait")
+        pair.wait(2)
+        line.is_broken = False
+        pair.finish()
+        got = names, pair.host.saved(1), pair.host.name(1), pair.host.text(1)
+        expect(got == (["file0"], "xone\n", *(("file0", "") if typed == ",d\n" else ("other", "xone\n"))), f"{typed!r}: {got}")
+
+
 # Keys that can't act on a lost line, by what a long text lacks, and what is pressed right behind them; and before the line is lost.
 FAST = (
     ((), ("^End", "Up", "x")),
@@ -113,6 +131,51 @@ def check_fast_keys_on_a_lost_line(folder):
             texts.append([pair.host.text(tag) for tag in pair.files()])
         at = next((at for at, pair in enumerate(zip(*texts)) if pair[0] != pair[1]), None)
         expect(texts[0] == texts[1], f"{before}, {keys}: file {at} differs: {editor.message!r}, {editor.deferred}")
+
+
+def check_text_that_goes_in_a_short_break(folder):
+    """A key that takes out text which isn't loaded waits while the line is gone for a moment: then `^Z` brings that back, and `^R` what a
+    `^Z` took out."""
+    come = "b" * 1000
+    for before, name, then, back, wanted in (
+        ((), "x", "x", "^Z", LONG), ((), "^X", "", "^Z", LONG), ((), "Backspace", "", "^Z", LONG),
+        (("Esc", f"$a/{come}/\n", "Esc"), "^Z", LONG, "^R", LONG + come),
+    ):  # fmt: skip
+        pair, editor, key, *_ = in_a_small_window()
+        pair.press(*(pressed(pair, each) for each in before))
+        line = pair.take_line(Line())
+        line.is_broken = True
+        pair.wait(0.2)
+        for each in ("^A", name):
+            editor.take(pressed(pair, each))
+        pair.wait(2)
+        expect(editor.deferred and not editor.notes.question, f"{name} asks: {editor.message!r}")
+        line.is_broken = False
+        pair.finish()
+        expect(pair.host.text(1) == then, f"behind {name} the host has {len(pair.host.text(1))} characters: {editor.message!r}")
+        pair.press(key(back))
+        expect(pair.host.text(1) == wanted, f"{back} doesn't take {name} back: {editor.message!r}")
+
+
+def check_text_that_goes_on_a_lost_line(folder):
+    """Where the line doesn't come back such a key goes after three seconds, once its user was told; but text waits, and what has text right
+    behind it. On a line that is known to be lost it asks at once."""
+    for keys, is_known, waits, told in (
+        ("x", False, True, ""), (("^X", "y"), False, True, ""), (("^X",), False, False, "^X can't act until the line is back"),
+        (("^X",), True, False, "can't bring them back"), ("x", True, False, "can't bring them back"),
+    ):  # fmt: skip
+        pair, editor, *_ = in_a_small_window()
+        line = pair.take_line(Line())
+        line.is_broken = True
+        pair.wait(KNOWN_LATE if is_known else 0.2)
+        for name in ("^A", *keys):
+            editor.take(pressed(pair, name))
+        pair.wait(KNOWN_LATE)
+        expect(bool(editor.deferred) == waits and told in editor.message, f"{keys}: {editor.deferred}, {editor.message!r}")
+        line.is_broken = False
+        pair.finish()
+        wanted = keys[-1] if waits else LONG
+        expect(pair.host.text(1) == wanted, f"{keys}: the host has {len(pair.host.text(1))} characters")
 
 
 def check_keys_once_a_refusal_is_read(folder):

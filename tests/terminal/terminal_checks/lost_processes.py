@@ -5,7 +5,9 @@ import signal
 import sys
 import time
 
-from .support import SAMHOST, SAMTERM, SAMTERM_WORD, Session, expect, expect_sleep, made, wait_for_text, wait_until
+from checks import expect_sleep
+
+from .support import SAMHOST, SAMTERM, SAMTERM_WORD, Session, expect, made, wait_for_text, wait_until
 
 
 def check_kill_host(folder):
@@ -22,7 +24,7 @@ def check_kill_host(folder):
         session.keys("Escape")
         session.wait_for("line 11")
         expect(not session.shows("lostline"), "it still takes text")
-        expect_sleep(session)
+        expect_sleep(session.processes().values())
         session.keys("C-q")
         session.wait_for_end(3)
     typed = folder / "typed.sam-here"

@@ -60,7 +60,7 @@ class Ends:
 class Line:
     """What the editor knows of a line to a session that stays, as a check says."""
 
-    late_after, round_trip, has_all, told, stays = 1.0, 0.0, True, "LINE LOST", True
+    late_after, has_all, told, stays = 1.0, True, "LINE LOST", True
 
     def __init__(self):
         self.is_broken, self.silence, self.notes, self.expects = False, 0.0, [], False
@@ -250,7 +250,7 @@ class Pair:
         expect(self.terminal.held == 0 and not self.editor.deferred, "an event is held for ever")
         expect(not self.editor.is_lost, self.editor.message)
         way = self.editor.way
-        expect(way.has_all and way.seconds is None and way.told == 0, "a message stays on the way")
+        expect(way.line.has_all and way.seconds is None and way.told == 0, "a message stays on the way")
         for window in self.editor.windows:
             if window.is_open:
                 shown = window.read(0, window.length)
@@ -259,6 +259,23 @@ class Pair:
                 expect(all(rune in (self.gap, wanted) for rune, wanted in zip(shown, text)), "the texts differ")
                 expect(not any(row.has_gap for row in window.layout().rows), "a gap stays on the screen")
                 expect(self.editor.is_changed(window.tag) == self.host.is_dirty(window.tag), "the mark of a file is wrong")
+
+
+class Kept:
+    """Names and texts that are written here, in place of files."""
+
+    def __enter__(self):
+        from terminal.files import local_backup
+
+        self.local_backup, self.before, self.texts = local_backup, local_backup.keep, []
+        local_backup.keep = lambda name, text: self.texts.append((name.lstrip("\0"), text)) or "/somewhere"
+        return self
+
+    def __exit__(self, *_):
+        self.local_backup.keep = self.before
+
+    def expect(self, wanted, told):
+        expect(sorted(self.texts) == sorted(wanted), f"{told}: it keeps {self.texts}, wanted {wanted}")
 
 
 def some_keys(numbers, keys):
@@ -298,6 +315,7 @@ def with_line(*texts, **more):
 
 
 LONG = "".join(f"line {at} foo\n" for at in range(3000))
+KNOWN_LATE = 4  # seconds of a lost line after which its user has to know
 
 
 def in_a_small_window():

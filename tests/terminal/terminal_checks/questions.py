@@ -1,5 +1,4 @@
 """Questions, and texts that were not written."""
-import contextlib
 import os
 import random
 import re
@@ -7,7 +6,7 @@ import signal
 
 from .hostile import hostile
 from .messages import Note, NoteCode, NoteKind, aside, first_message, lost, not_saved, said, write_note
-from .pairs import Pair, opened
+from .pairs import Kept, Pair, opened
 from .support import SAMHOST, SAMHOST_WORD, Session, change_two, expect, host_that, made, wait_for_text, wait_until
 
 
@@ -291,19 +290,6 @@ def check_host_lost_with_a_text(folder):
     expect(len(list(folder.glob("a.txt.sam-here*"))) == 1, "it is written twice")
 
 
-@contextlib.contextmanager
-def kept_texts():
-    """The texts that are written here meanwhile, with their names; no file is made."""
-    from terminal.files import local_backup
-
-    kept = []
-    before, local_backup.keep = local_backup.keep, lambda name, text: kept.append((name.lstrip("\0"), text)) or name
-    try:
-        yield kept
-    finally:
-        local_backup.keep = before
-
-
 def check_typed_ahead_is_kept(folder):
     """What was typed and waits when the host is lost is written, too, to a file of its own: it is in no text. So is what was typed for a
     file that is not open yet, or before the files are known."""
@@ -311,9 +297,9 @@ def check_typed_ahead_is_kept(folder):
     pair.press(text("x"))
     for typed in (key("^D"), text("after")):
         editor.take(typed)
-    with kept_texts() as kept:
+    with Kept() as kept:
         editor.lose("the host is gone")
-    expect(kept == [("file0", "xa\n"), ("typed", "after")], f"it keeps {kept}")
+    expect(kept.texts == [("file0", "xa\n"), ("typed", "after")], f"it keeps {kept.texts}")
     for trips in range(4):
         pair = Pair(random.Random(1), ["a\n"])
         for _ in range(trips):
@@ -321,18 +307,18 @@ def check_typed_ahead_is_kept(folder):
         if pair.terminal.is_open(1):
             break
         pair.editor.take(text("early"))
-        with kept_texts() as kept:
+        with Kept() as kept:
             pair.editor.lose("the host is gone")
-        expect(kept == [("typed", "early")], f"after {trips} round trips it keeps {kept}")
+        expect(kept.texts == [("typed", "early")], f"after {trips} round trips it keeps {kept.texts}")
     expect(trips > 1, "this test is wrong: the file is open at once")
     pair = Pair(random.Random(1), ["a\n", "b\n"])
     pair.editor.arrange(60, 80)
     pair.finish()
     for typed in (text("x"), key("^T"), text("late")):
         pair.editor.take(typed)
-    with kept_texts() as kept:
+    with Kept() as kept:
         pair.editor.lose("the host is gone")
-    expect(kept == [("file0", "xa\n"), ("typed", "late")], f"it keeps {kept}")
+    expect(kept.texts == [("file0", "xa\n"), ("typed", "late")], f"it keeps {kept.texts}")
 
 
 def check_lines_when_lost(folder):
@@ -341,7 +327,7 @@ def check_lines_when_lost(folder):
     for window in editor.files:
         editor.go_to(window)
         pair.press(text("x"))
-    with kept_texts():
+    with Kept():
         editor.lose("the host is gone")
     for wanted, late in (("of file0 is here", key("Left")), ("of file1 is here", text("y"))):
         editor.take(late)
@@ -352,46 +338,19 @@ def check_lines_when_lost(folder):
     expect(editor.keeping.typed_late == "yy", f"of what is typed then it keeps {editor.keeping.typed_late!r}")
 
 
-def check_open_texts_of_one_name(folder):
-    """Files may have the same name, or paths that end in the same 63 characters. Of each that was changed the text is kept."""
-    pair, editor, key, text = opened("a\n", "b\n")
-    for window, rune in zip(editor.files, "xy"):
-        editor.go_to(window)
-        pair.press(text(rune), key("Esc"), text("f same\n"), key("Esc"))
-    expect([pair.host.name(tag) for tag in (1, 2)] == ["same", "same"], "this test is wrong")
-    editor.hear(aside(1))
-    with kept_texts() as kept:
-        editor.lose("the host is gone")
-    expect(kept == [("same", "yb\n")], f"it keeps {kept}")
-
-
-def check_dropped_texts_of_one_name(folder):
-    """The same of files that are closed: a text stays until the host has said that it is saved."""
-    pair, editor, key, text = opened("a\n", "b\n", "c\n")
-    for window, rune in zip(editor.files[:2], "xy"):
-        editor.go_to(window)
-        pair.press(text(rune), key("Esc"), text("f same\n"), key("Esc"))
-    for _ in range(2):
-        editor.go_to(editor.files[0])
-        pair.press(key("^K"), key("^K"))
-    expect([window.tag for window in editor.files] == [3], f"this test is wrong: {editor.message}")
-    editor.hear(aside(1))
-    with kept_texts() as kept:
-        editor.lose("the host is gone")
-    expect(kept == [("same", "yb\n")], f"it keeps {kept}")
-
-
 def check_saved_by_the_host(folder):
     """What the host says that it has saved is not written here too, where it has got all that was sent. A later change is."""
     pair, editor, key, text = opened("a\n")
     pair.press(text("x"))
     editor.hear(aside(1))
-    with kept_texts() as kept:
-        expect(editor.keeping.keep_here(True) == [] == kept, f"it writes {kept}, which the host has")
-        expect(len(editor.keeping.keep_here(False)) == 1 and kept == [("file0", "xa\n")], f"it writes {kept}, where the host may lack some")
+    with Kept() as kept:
+        expect(editor.keeping.keep_here(True) == [] == kept.texts, f"it writes {kept.texts}, which the host has")
+        expect(len(editor.keeping.keep_here(False)) == 1, "it tells nothing of a text which the host may lack")
+    kept.expect([("file0", "xa\n")], "where the host may lack some")
     pair.press(text("y"))
-    with kept_texts() as kept:
-        expect(len(editor.keeping.keep_here(True)) == 1 and kept == [("file0", "xya\n")], f"it writes {kept} after a later change")
+    with Kept() as kept:
+        expect(len(editor.keeping.keep_here(True)) == 1, "it tells nothing of a later change")
+    kept.expect([("file0", "xya\n")], "after a later change")
 
 
 def check_words_at_the_start(folder):
@@ -408,8 +367,10 @@ def check_words_at_the_start(folder):
 
 
 def check_noise_alone(folder):
-    """A command that is no host: what it printed is told."""
-    with Session(folder, "a.txt", host=host_that(folder, "echo no samhost here")) as session:
-        session.wait_for_end(1)
-    told = (folder / "stderr").read_text()
-    expect("no samhost here" in told and "doesn't answer" in told, f"it tells {told!r}")
+    """A command that is no host: what it printed is told, and so is one whose stream ends, but which goes on."""
+    for lines, wanted in ((["echo no samhost here"], "no samhost here"), (["exec >&-", "exec sleep 1000"], "doesn't answer")):
+        (folder / "status").unlink(missing_ok=True)
+        with Session(folder, "a.txt", host=host_that(folder, *lines)) as session:
+            session.wait_for_end(1)
+        told = (folder / "stderr").read_text()
+        expect(wanted in told and "doesn't answer" in told, f"{lines}: it tells {told!r}")

@@ -3,6 +3,7 @@ import os
 import time
 
 from .breaks import expect_joining
+from .left_texts import open_left
 from .pairs import opened
 from .support import STATE, Session, expect, made, wait_for_text, wait_until
 
@@ -135,6 +136,28 @@ def check_reload_asks(folder):
         session.type("x")
         session.wait_for("xtyped line 1 ")
         session.leave_unwritten()
+
+
+def check_reload_over_what_was_taken(folder):
+    """A text that an earlier session left is taken, and then what another program has written is put in its place: the old text stays, as
+    it is in no file."""
+    expect_joining()
+    (path,) = made(folder, a="one\n")
+    kept = folder / "a.txt.sam-here"
+    kept.write_text("left\n")
+    with Session(folder, "a.txt", stays=True, width=140) as session:
+        session.wait_for("newer than the file; F9 takes it")
+        session.read()
+        open_left(session, "a.txt: ")
+        session.keys("Enter")
+        session.wait_for("a.txt has that text now")
+        session.wait_for_quiet()
+        replaced(path, "theirs\n")
+        session.keys("C-u")
+        session.answer("a.txt was not written; ^U again", "C-u")
+        session.wait_for("a.txt is reloaded")
+        session.leave()
+    expect(kept.exists() and kept.read_text() == "left\n" and path.read_text() == "theirs\n", f"there are {list(folder.iterdir())}")
 
 
 def check_reload_and_a_break(folder):

@@ -15,9 +15,9 @@ import time
 from pathlib import Path
 from types import SimpleNamespace
 
-from checks import times_longer
+from checks import seconds_of, times_longer
 
-from .support import LIBRARY, SAMHOST, SAMTERM, SECONDS, STATE, below, expect, stat_of
+from .support import LIBRARY, SAMHOST, SAMTERM, SECONDS, STATE, below, expect, stat_of, wait_until
 
 GATE = Path(__file__).with_name("gate.py")
 WIDTH, HEIGHT = 100, 30
@@ -126,11 +126,6 @@ class OnTerminal:
         return float(self.log.read_text()) if self.log.exists() else self.back_at
 
 
-def cost_of(process):
-    """The seconds of the processor that a process has taken."""
-    return int(Path(f"/proc/{process}/schedstat").read_text().split()[0]) / 1e9
-
-
 def share_of(numbers, hundredths):
     """What so many of a hundred are at most."""
     count = -(-len(numbers) * hundredths // 100)
@@ -152,10 +147,10 @@ class Measured:
                 until, number = time.monotonic() + seconds, 0
                 while time.monotonic() < until:
                     rune = RUNES[number % len(RUNES)]
-                    before = cost_of(session.process.pid)
+                    before = seconds_of(session.process.pid)
                     session.type(rune)
                     self.keys.append(session.read_until(rune))
-                    self.costs.append(cost_of(session.process.pid) - before)
+                    self.costs.append(seconds_of(session.process.pid) - before)
                     session.rest(0.02)
                     number += 1
                     if number % len(RUNES) == 0:
@@ -185,18 +180,41 @@ def check_writes_here_between_keys(folder):
     second later all the same."""
     from terminal.files import unsaved_texts
 
-    way = SimpleNamespace(is_late=True, silence=0.0)
+    way = SimpleNamespace(is_late=True, line=SimpleNamespace(silence=0.0))
     editor = SimpleNamespace(terminal=None, way=way, is_lost=False, quiet_for=0.0, clock=lambda: 0.0)
     kept, after = unsaved_texts.UnsavedTexts(editor), unsaved_texts.HERE_AFTER
     for silence, quiet, wanted in (
         (after - 1, 0.1, 1.0), (after, 0.1, 0.15), (after + 0.97, 0.1, 0.03), (after, 0.005, 0.0), (after, 0.3, 0.0), (after + 1, 0.1, 0.0),
     ):  # fmt: skip
-        way.silence, editor.quiet_for = silence, quiet
+        way.line.silence, editor.quiet_for = silence, quiet
         left = kept.seconds_until_here
         expect(abs(max(0.0, left) - wanted) < 1e-6, f"after {silence} s, {quiet} after a key, it waits {left} s more, wanted {wanted}")
         expect(kept.is_here_due == (wanted == 0), f"after {silence} s, {quiet} after a key, it is {kept.is_here_due} that it begins")
+    kept._here_at, editor.clock = 0.0, lambda: 5.0
+    for quiet, took, wanted in ((4.0, 0.0, -4.0), (6.0, 0.0, 5.0), (4.0, 0.5, 5.0)):
+        editor.quiet_for, kept._copies.took = quiet, took
+        left = kept.seconds_until_here
+        expect(abs(left - wanted) < 1e-6, f"5 s after copies that took {took} s, {quiet} after a key, it waits {left} s, wanted {wanted}")
     editor.is_lost = True
     expect(kept.seconds_until_here is None and not kept.is_here_due, "it is written again once the host is lost")
+
+
+def check_writes_here_behind_a_slow_copy(folder):
+    """A key that comes while texts are still written here is in the next copies, which follow as soon as what these took allows."""
+    from terminal.files import backup_process, unsaved_texts
+
+    os.chdir(folder)
+    way = SimpleNamespace(is_late=True, line=SimpleNamespace(silence=9.0))
+    editor = SimpleNamespace(terminal=None, way=way, is_lost=False, quiet_for=1.0, clock=lambda: 1.5)
+    kept, took = unsaved_texts.UnsavedTexts(editor), 0.5
+    kept._here_at = 0.0
+    kept._copies.write([backup_process.Unsaved("slow", "slow", lambda: time.sleep(took) or "text")])
+    expect(not kept.is_here_due, "copies are due while the last ones are written")
+    wait_until(lambda: kept.seconds_until_here != unsaved_texts.AGAIN, "they are never written")
+    left = kept.seconds_until_here
+    expect(left >= unsaved_texts.PAUSE * took - 1.5, f"1.5 s after copies that took {took} s it waits {left} s more")
+    editor.clock = lambda: 1.5 + left
+    expect(kept.is_here_due, "a key that came meanwhile is in no copy")
 
 
 def check_draws_a_long_answer(folder):

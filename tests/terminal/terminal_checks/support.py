@@ -53,19 +53,6 @@ def children_of(process):
     return found
 
 
-def expect_sleep(session):
-    """Two seconds cost the processes of a session next to no processor time."""
-
-    def used():
-        return sum(int(ticks) for process in processes for ticks in stat_of(process)[11:13]) / os.sysconf("SC_CLK_TCK")
-
-    processes = session.processes().values()
-    before = used()
-    time.sleep(2)
-    cost = used() - before
-    expect(cost < 0.05, f"two quiet seconds cost {cost:.2f} s of processor time")
-
-
 @contextlib.contextmanager
 def stopped(process, what):
     """A process stands still meanwhile."""

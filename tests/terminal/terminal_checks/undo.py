@@ -2,7 +2,7 @@
 import random
 import time
 
-from .pairs import LONG, Line, Pair, in_a_small_window, opened
+from .pairs import KNOWN_LATE, LONG, Line, Pair, in_a_small_window, opened
 from .support import Session, expect, made, wait_for_text
 
 
@@ -84,10 +84,11 @@ def check_undo_of_a_pattern(folder):
 
 def check_undo_without_a_line(folder):
     """Where text that is not loaded can't be, since the line is lost, it is told before that goes."""
-    pair, editor, key, text = in_a_small_window()
-    line = pair.take_line(Line())
-    line.is_broken = True
-    for last, wanted in ((text("x"), "x"), (key("^X"), ""), (key("Backspace"), "")):
+    for name, wanted in (("x", "x"), ("^X", ""), ("Backspace", "")):
+        pair, editor, key, text = in_a_small_window()
+        line, last = pair.take_line(Line()), text(name) if name == "x" else key(name)
+        line.is_broken = True
+        pair.wait(KNOWN_LATE)
         pair.press(key("^A"), last)
         shown = editor.active.read(0, editor.active.length)
         expect(len(shown) == len(LONG) and "can't bring them back" in editor.message, f"{last}: it isn't told: {editor.message}")
@@ -95,8 +96,6 @@ def check_undo_without_a_line(folder):
         expect(editor.active.read(0, editor.active.length) == wanted, f"{last}: an answer is not taken: {editor.message}")
         pair.press(key("^Z"))
         expect("can't be taken back" in editor.message, f"{last}: it takes back what is not known: {editor.message}")
-        pair, editor, key, text = in_a_small_window()
-        pair.take_line(line)
 
 
 def check_undo_not_loaded(folder):

@@ -68,6 +68,49 @@ def check_typing_at_the_menu(folder):
     expect(editor.menu is not None and shown()[0] == ["notes.txt", "d/e/tab.txt", "* Data/a.c", "extra.c"], f"it shows {shown()}")
 
 
+def check_page_keys_of_the_menu(folder):
+    """The page keys of the menu go by ten of the host's paths as by ten files, and wait for them as the arrows do."""
+    from sulgrevad import Note, NoteKind
+
+    pair, editor, key, text = opened("a\n")
+    pair.press(key("F2"), text("f"))
+    paths = "".join(f"f{at}\n" for at in range(10, 40))
+    editor.menu.meet_names(Note(NoteKind.NAMES, request=editor.menu._asked, path=paths.encode()))
+    for name, wanted in (
+        ("Page Down", "+ f19"), ("Page Down", "+ f29"), ("Up", "+ f28"), ("Page Down", "+ f38"), ("Page Down", "+ f  (a new file)"),
+        ("Page Up", "+ f30"), ("Page Up", "+ f20"), ("Page Up", "+ f10"), ("Page Up", "file0"),
+    ):  # fmt: skip
+        pair.press(key(name))
+        (chosen,) = [line.strip() for line, is_chosen in editor.menu.lines(50) if is_chosen]
+        expect(chosen == wanted, f"{name} goes to {chosen!r}, wanted {wanted!r}")
+    for each in (text("1"), key("Page Down")):
+        editor.take(each)
+    expect(len(editor.deferred) == 1, "it goes by the host's paths before these have come")
+    pair.finish()
+    expect(not editor.deferred, "it waits though they have come")
+
+
+def check_line_of_a_wished_file(folder):
+    """A file that another program wishes shown goes to its line, which is selected; but not once its user has typed there: what comes next
+    would replace that line."""
+    from sulgrevad import Note, NoteKind
+
+    for typed, wanted in (("", "line 1\nyline 3\n"), ("x", "xyline 1\nline 2\nline 3\n")):
+        pair, editor, key, text = opened("a\n")
+        pair.host.add_file("wished", "line 1\nline 2\nline 3\n")
+        editor.hear(Note(NoteKind.SHOWN, tag=2, number=2))
+        for _ in range(9):
+            if editor.active.tag != 2:
+                pair.trip()
+        expect(editor.active.tag == 2, "it doesn't come up")
+        pair.now += 0.1
+        for rune in typed:
+            editor.take(text(rune))
+        pair.finish()
+        pair.press(text("y"))
+        expect(pair.host.text(2) == wanted, f"behind {typed!r} the text is {pair.host.text(2)!r}, wanted {wanted!r}")
+
+
 def check_tiny_screen(folder):
     """A screen that has no room for all windows shows that to which the keys go, and takes clicks for it."""
     pair, editor, key, text = opened("a\nb\n", "c\n")
