@@ -14,8 +14,6 @@
 
 ;;; Code:
 
-(require 'cl-lib)
-(require 'subr-x)
 (require 'sulgrevad-line)
 
 (declare-function sulgrevad-mode "sulgrevad" (&optional arg))
@@ -27,7 +25,8 @@
 (defvar sulgrevad--client nil "The client of the session, or nil.")
 (defvar sulgrevad--line nil "The line to the host.")
 (defvar sulgrevad--buffers nil "The buffers of open files.")
-(defvar sulgrevad--is-taking nil "Whether a buffer is being changed to what the client shows.")
+(defvar sulgrevad--refused nil "What the kill ring got last that had gone back.")
+(defvar sulgrevad--taking nil "The buffer that is being changed to what the client shows.")
 
 (defvar-local sulgrevad--tag nil "The tag of the buffer's file.")
 (defvar-local sulgrevad--path nil
@@ -36,13 +35,11 @@ It stays when the session is over.")
 (defvar-local sulgrevad--self nil
   "The buffer itself.
 A clone of it has its variables, and is no buffer of the file.")
-(defvar-local sulgrevad--tick nil
-  "The buffer's tick after the last change that the client knows.
-Where it is of no file any more: its tick when it was let go.")
+(defvar-local sulgrevad--tick nil "The buffer's tick after the last change that the client knows.")
 (defvar-local sulgrevad--has-drifted nil
   "Whether the client may not know all changes of the buffer.
 Where it is but a text that has no room yet: its place, and how long it
-is.  When the session is over: whether its text stands nowhere else.")
+is.")
 (defvar-local sulgrevad--host-changes nil "The step of undo for edits by the host, as of `prepare-change-group'.")
 ;; They outlive a change of the major mode.
 (dolist (name '(sulgrevad--tag sulgrevad--path sulgrevad--self sulgrevad--tick sulgrevad--has-drifted sulgrevad--host-changes
@@ -67,10 +64,10 @@ the first learns after them, the second before them.")
   "How the file TAG is."
   (sulgrevad-client-file sulgrevad--client tag))
 
-(defun sulgrevad--ask (kind &optional tag start number text)
+(defun sulgrevad--ask (kind &optional tag start end)
   "Ask the client for an event of KIND, behind all that was done.
-It may have the file TAG, a place or two, START and NUMBER, and a TEXT."
-  (sulgrevad-client-ask sulgrevad--client kind (or tag 0) (or start 0) (or number 0) (or text "")))
+It may have the file TAG, and the places START and END."
+  (sulgrevad-client-ask sulgrevad--client kind (or tag 0) (or start 0) (or end 0)))
 
 ;;; Texts
 
@@ -80,15 +77,13 @@ It may have the file TAG, a place or two, START and NUMBER, and a TEXT."
     (widen)
     (buffer-substring-no-properties (1+ (or start 0)) (1+ (or end (buffer-size))))))
 
-(defun sulgrevad--shown (tag &optional start end gap-words)
+(defun sulgrevad--shown (tag &optional start end)
   "The shown text of the file TAG from the place START to END.
-A sign that can't be changed stands for each rune that is not loaded, or
-GAP-WORDS, a format of their number, for all of a gap."
+A sign that can't be changed stands for each rune that is not loaded."
   (let ((start (or start 0)) (end (or end (sulgrevad-file-len (sulgrevad--file tag)))))
     (mapconcat (lambda (piece)
-                 (cond ((stringp piece) piece)
-                       (gap-words (format gap-words piece))
-                       (t (propertize (make-string piece sulgrevad--gap-sign) 'sulgrevad-gap t 'read-only t))))
+                 (if (stringp piece) piece
+                   (propertize (make-string piece sulgrevad--gap-sign) 'sulgrevad-gap t 'read-only t)))
                (sulgrevad-client-pieces sulgrevad--client tag start (- end start)) "")))
 
 (defun sulgrevad--same-front (one other)
@@ -110,6 +105,15 @@ nil, or a list: where that begins, and where it ends in each."
   (unless (equal (car kill-ring) text)
     (push text kill-ring)
     (setq kill-ring-yank-pointer kill-ring)))
+
+(defun sulgrevad--kill-refused (text)
+  "Have the kill ring hold TEXT, which was put in and taken back.
+It stands there behind what was so before: keys that are pressed in a
+full file are one entry.  What was yanked is there already."
+  (unless (or (string-empty-p text) (and (eq this-command 'yank) (member text kill-ring)))
+    (when (and kill-ring (eq (car kill-ring) sulgrevad--refused)) (setq text (concat (pop kill-ring) text)))
+    (sulgrevad--kill-text text)
+    (setq sulgrevad--refused (car kill-ring))))
 
 ;;; Buffers
 
@@ -138,9 +142,10 @@ Then signal the first error of it."
   (dolist (hook sulgrevad--hooks) (add-hook (car hook) (cadr hook) (caddr hook) t)))
 
 (defun sulgrevad--waits ()
-  "Whether the client may not know each edit of the buffer."
+  "Whether the buffer has edits that may stand nowhere else."
   (when (sulgrevad--is-ours) (sulgrevad--check-tick))
-  (and (eq sulgrevad--self (current-buffer)) sulgrevad--has-drifted))
+  (and (eq sulgrevad--self (current-buffer))
+       (if sulgrevad--tag sulgrevad--has-drifted (and (null buffer-file-name) (buffer-modified-p)))))
 
 ;;; Edits
 
@@ -164,17 +169,21 @@ Emacs takes all hooks off where one of another fails."
   (unless (and (eql sulgrevad--tick (buffer-chars-modified-tick)) (memq #'sulgrevad--before-change before-change-functions))
     (setq sulgrevad--has-drifted t)))
 
+(defun sulgrevad--check-length ()
+  "Note what is encoded in the buffer: it comes without a hook or a tick."
+  (unless (sulgrevad--is-as-long (or (cdr-safe sulgrevad--has-drifted) 0)) (setq sulgrevad--has-drifted t)))
+
 (defun sulgrevad--before-change (&rest _)
   "Note that the buffer is about to change."
   (sulgrevad--check-tick)
-  (unless sulgrevad--is-taking (sulgrevad--close-step)))
+  (unless (eq sulgrevad--taking (current-buffer)) (sulgrevad--close-step)))
 
 (defun sulgrevad--after-change (start end old)
   "Give the client the text from START to END, which replaced OLD characters.
 It signals no error and no quit, since Emacs would not call it again."
   (when (sulgrevad--is-ours)
     (let ((inhibit-quit t) (is-known (not sulgrevad--has-drifted)))
-      (unless sulgrevad--is-taking
+      (unless (eq sulgrevad--taking (current-buffer))
         (setq sulgrevad--has-drifted t)
         (condition-case nil
             (when (and is-known (sulgrevad--is-as-long (- end start old)))
@@ -203,8 +212,8 @@ It may signal `sulgrevad-no-memory': then it is to be called again."
            (if (and (string-prefix-p "SAM_REFUSAL_TOO_LONG" why) (<= (buffer-size) sulgrevad-most-runes)
                     (null (sulgrevad--give start start old-end)))
                (setq waits (cons start (- end start)))
-             (sulgrevad--kill-text (sulgrevad--text))
-             (message "Sulgrevad: %s; the kill ring has the buffer's text" why)
+             (sulgrevad--kill-refused (sulgrevad--text start end))
+             (message "Sulgrevad: %s; the kill ring has what was put in" why)
              (sulgrevad--put-back)))))
       (sulgrevad--hook-up)
       (setq sulgrevad--has-drifted waits
@@ -213,28 +222,38 @@ It may signal `sulgrevad-no-memory': then it is to be called again."
 ;;; What the host changes
 
 (defun sulgrevad--put (start end text)
-  "Have TEXT, which is shown, replace the buffer's from START to END."
-  (let ((inhibit-read-only t) (sulgrevad--is-taking t))
+  "Have TEXT replace the buffer's from START to END, and nothing in half.
+Signal an error where a function of another package, which Emacs calls
+before that, has had something else go."
+  (let ((inhibit-quit t) (goes (sulgrevad--text start end)))
     (save-restriction
       (widen)
       (save-excursion
         (goto-char (1+ start))
-        (delete-region (point) (1+ end))
+        (let ((went (delete-and-extract-region (point) (1+ end))))
+          (unless (string= went goes)
+            (let ((inhibit-modification-hooks t)) (insert went))
+            (error "Another function has changed what goes")))
         (insert text)))))
+
+(defun sulgrevad--put-over (start text)
+  "Have TEXT, which is loaded, replace what stands for it from START on.
+All markers stay: it is put in behind that, and the two change places."
+  (let* ((buffer-undo-list t) (from (1+ start)) (to (+ from (length text))) (end (+ to (length text))))
+    (save-restriction
+      (widen)
+      (save-excursion
+        (goto-char to)
+        (insert text)
+        (transpose-regions from to to end t)
+        (delete-region to end)))))
 
 (defun sulgrevad--put-back ()
   "Have the buffer be the shown text, whoever else's hooks fail."
-  (dolist (inhibit-modification-hooks '(nil t))
-    (pcase (sulgrevad--difference (sulgrevad--text) (sulgrevad--shown sulgrevad--tag))
-      (`(,start ,end ,to) (ignore-errors (sulgrevad--put start end (sulgrevad--shown sulgrevad--tag start to)))))))
-
-(defun sulgrevad--put-all ()
-  "Have the buffer, which is new or of an earlier session, be the shown text."
-  (let ((inhibit-read-only t) (inhibit-modification-hooks t) (buffer-undo-list t))
-    (save-restriction
-      (widen)
-      (erase-buffer)
-      (insert (sulgrevad--shown sulgrevad--tag)))))
+  (let ((inhibit-read-only t) (sulgrevad--taking (current-buffer)))
+    (dolist (inhibit-modification-hooks '(nil t))
+      (pcase (sulgrevad--difference (sulgrevad--text) (sulgrevad--shown sulgrevad--tag))
+        (`(,start ,end ,to) (ignore-errors (sulgrevad--put start end (sulgrevad--shown sulgrevad--tag start to))))))))
 
 ;; The host changes a text by command lines alone.  What one of them does is one step of undo, whenever it comes.
 
@@ -257,36 +276,40 @@ Functions of others may change it meanwhile: then places move, and it
 drifts."
   (when-let ((buffer (and splices (sulgrevad--buffer-of (cadr (car splices))))))
     (with-current-buffer buffer
-      (let* ((start (car-safe sulgrevad--has-drifted))
+      (let* ((inhibit-read-only t) (sulgrevad--taking buffer) (waits sulgrevad--has-drifted) (start (car-safe waits))
+             (mark (lambda (kind place count)
+                     (let ((is-behind (and start (if (eq kind 'came) (< start place) (<= start place)))))
+                       (list (copy-marker (+ 1 place (if is-behind (cdr waits) 0))) kind place count))))
              (marked (cl-loop for (kind _ place count) in splices
-                              for at = (if (and start (< start place)) (+ place (cdr sulgrevad--has-drifted)) place)
-                              collect (list (copy-marker (1+ at)) kind place count))))
+                              for front = (and start (not (eq kind 'came)) (< place start (+ place count)) (- start place))
+                              when front collect (funcall mark kind start (- count front)) ; what waits stays between the two
+                              collect (funcall mark kind place (or front count)))))
         (condition-case nil
             (pcase-dolist (`(,marker . ,splice) marked)
               (apply #'sulgrevad--take-one (1- marker) splice)
               (set-marker marker nil))
           (error (when (sulgrevad--is-ours) ; a hook of another has failed
-                   (when sulgrevad--has-drifted (sulgrevad--kill-text (sulgrevad--text)))
+                   (when waits
+                     (sulgrevad--kill-text (sulgrevad--text))
+                     (message "Sulgrevad: another function has failed; the kill ring has the text of %s" (buffer-name)))
                    (sulgrevad--put-back)))))
       (when (sulgrevad--is-ours)
         (sulgrevad--check-tick)
-        (unless (sulgrevad--is-as-long 0) (setq sulgrevad--has-drifted t))))))
+        (if (consp sulgrevad--has-drifted) (setq sulgrevad--has-drifted t) ; it may stand elsewhere now
+          (sulgrevad--check-length))))))
 
 (defun sulgrevad--take-one (at kind place count)
   "Make a splice of KIND in the buffer: AT is its place there.
 At the client it is PLACE; it is of COUNT runes."
-  (let* ((start (or (car-safe sulgrevad--has-drifted) 0))
-         (mine (if (< place start (+ place count)) (sulgrevad--text start (+ start (cdr sulgrevad--has-drifted))) "")) ; it stays
-         (end (+ at count (length mine)))
-         (text (and (memq kind '(came filled)) (sulgrevad--shown sulgrevad--tag place (+ place count)))))
+  (let ((end (+ at count)))
     (pcase kind
       ('came (sulgrevad--open-step)
-             (sulgrevad--put at at text))
+             (sulgrevad--put at at (sulgrevad--shown sulgrevad--tag place (+ place count))))
       ('went (sulgrevad--open-step)
              (let ((has-sign (sulgrevad--has-sign at end)))
-               (sulgrevad--put at end mine)
+               (sulgrevad--put at end "")
                (when has-sign (setq buffer-undo-list nil sulgrevad--host-changes nil)))) ; undo would put signs back
-      ('filled (let ((buffer-undo-list t)) (sulgrevad--put at end (concat text mine))))
+      ('filled (sulgrevad--put-over at (sulgrevad--shown sulgrevad--tag place (+ place count))))
       ('emptied (sulgrevad--let-go))))) ; its file is closed
 
 (defun sulgrevad--is-whole (tag)
@@ -296,39 +319,35 @@ At the client it is PLACE; it is of COUNT runes."
 ;;; How a buffer is
 
 (defun sulgrevad--let-go ()
-  "Have the buffer stay readable, and be of no file any more."
-  (if (sulgrevad--waits)                ; then it asks before it is killed
-      (dolist (hook sulgrevad--hooks)
-        (unless (memq (car hook) '(kill-buffer-query-functions kill-buffer-hook)) (remove-hook (car hook) (cadr hook) t)))
-    (dolist (hook sulgrevad--hooks) (remove-hook (car hook) (cadr hook) t))
-    (setq buffer-offer-save nil))
+  "Have the buffer stay readable, and be of no file any more.
+It counts as modified where its text stands nowhere else, and once
+something is typed: then it asks before it is killed, and Emacs at its
+end."
+  (unless buffer-file-name (restore-buffer-modified-p (sulgrevad--waits)))
+  (dolist (hook sulgrevad--hooks)
+    (unless (memq (car hook) '(kill-buffer-query-functions kill-buffer-hook)) (remove-hook (car hook) (cadr hook) t)))
   (kill-local-variable 'revert-buffer-function)
-  (setq buffer-read-only t sulgrevad--tag nil sulgrevad--tick (buffer-chars-modified-tick))
-  (sulgrevad-mode -1))
+  (setq buffer-read-only t sulgrevad--tag nil)
+  (with-demoted-errors "Sulgrevad: %S" (sulgrevad-mode -1))) ; a hook of another may fail
 
 (defun sulgrevad--is-left ()
   "Whether the buffer is as it was let go, and its text stands elsewhere, too."
-  (and (eq sulgrevad--self (current-buffer)) (null sulgrevad--tag) (not sulgrevad--has-drifted)
-       (null buffer-file-name)          ; else it would be written there
-       (eql sulgrevad--tick (buffer-chars-modified-tick))))
+  (not (or (not (eq sulgrevad--self (current-buffer))) sulgrevad--tag (sulgrevad--waits)
+           buffer-file-name)))          ; else it would be written there
 
 (defun sulgrevad--update (is-idle)
-  "Have the buffer show how its file is.
+  "Have the buffer show how its file is, and what it is called.
 IS-IDLE says that no command line is under way."
   (let ((file (sulgrevad--file sulgrevad--tag)))
     (if (not (sulgrevad-file-is-open file)) (sulgrevad--let-go)
-      (sulgrevad--take-name)
+      (let ((name (sulgrevad-client-name sulgrevad--client sulgrevad--tag)))
+        (unless (member name (list "" sulgrevad--path))
+          (setq sulgrevad--path name)
+          (rename-buffer (sulgrevad--base name) t)))
+      (setq list-buffers-directory sulgrevad--path) ; another major mode drops that
       (unless (or sulgrevad--has-drifted (eq (buffer-modified-p) (sulgrevad-file-is-unsaved file)))
         (restore-buffer-modified-p (sulgrevad-file-is-unsaved file)))
       (when (and is-idle (sulgrevad--is-whole sulgrevad--tag)) (sulgrevad--close-step)))))
-
-(defun sulgrevad--take-name ()
-  "Give the buffer the name that its file has."
-  (let ((name (sulgrevad-client-name sulgrevad--client sulgrevad--tag)))
-    (unless (or (string-empty-p name) (equal name sulgrevad--path))
-      (setq sulgrevad--path name
-            list-buffers-directory name)
-      (rename-buffer (sulgrevad--base name) t))))
 
 (defun sulgrevad--base (name)
   "What a buffer is called whose file has this NAME."

@@ -9,10 +9,6 @@
 
 ;;; Code:
 
-(require 'cl-lib)
-(require 'subr-x)
-(require 'sulgrevad-buffer)
-(require 'sulgrevad-line)
 (require 'sulgrevad-session)
 
 (declare-function diff-no-select "diff" (old new &optional switches no-async buf))
@@ -22,21 +18,28 @@
   "How many characters of a file's name such a name begins with.
 Those of four bytes have room, too.")
 (defconst sulgrevad-most-leaving 10 "How many seconds at most the end of a session takes.")
-(defconst sulgrevad-most-unkept 10 "How many seconds of a lost line pass until a text is kept here again.")
+(defconst sulgrevad-most-unkept 1 "How many seconds of a lost line pass at least until a text is kept here again.")
+(defconst sulgrevad-most-keeping 0.05
+  "For which part of the time that is done at most.
+A disk may be slow, and keys wait.")
 (defconst sulgrevad--gap-words "[%d characters that were not loaded]" "What stands in such a text for characters that it lacks.")
 
 (defvar sulgrevad--folder nil "The folder in which the session began.")
-(defvar sulgrevad--copies nil "Tags of files whose text is kept here while the line is lost, and where.")
-(defvar sulgrevad--copied-at 0 "When that was done last.")
+(defvar sulgrevad--copies nil
+  "Of files whose text is kept here while the line is lost.
+Of each its tag, where, and the text.")
+(defvar sulgrevad--keeps-at 0 "From when on that is done again, in milliseconds.")
 
 ;;; Keeping
 
 (defun sulgrevad--write-new (path text)
   "Write TEXT to a file at PATH that is not there, for its owner alone.
 Return `written'; `there' where another is there; nil where it can't be."
-  (let ((coding-system-for-write 'utf-8-emacs-unix) (write-region-inhibit-fsync nil) (file-name-handler-alist nil))
+  (let ((coding-system-for-write 'utf-8-emacs-unix) (write-region-inhibit-fsync nil) (file-name-handler-alist nil)
+        (create-lockfiles nil))
     (condition-case nil
-        (with-file-modes #o600 (write-region text nil path nil 'silent nil 'excl) 'written)
+        (if (file-exists-p path) 'there ; one that a buffer visits, and that has changed since, Emacs asks about amid the user's keys
+          (with-file-modes #o600 (write-region text nil path nil 'silent nil 'excl) 'written))
       (file-already-exists 'there)
       (error (ignore-errors (delete-file path))))))
 
@@ -66,25 +69,30 @@ a new one takes its place."
   (let* ((inhibit-quit t) (before (assq tag sulgrevad--copies)) (path (sulgrevad--keep-new name text)))
     (when (and before path)             ; the old one stays until the new one is whole
       (setq sulgrevad--copies (delq before sulgrevad--copies))
-      (ignore-errors (rename-file path (cdr before) t)
-                     (setq path (cdr before))))
+      (ignore-errors (rename-file path (cadr before) t)
+                     (setq path (cadr before))))
     path))
 
-(defun sulgrevad--text-of (tag)
-  "The text of the file TAG, with words for what isn't loaded."
-  (let ((buffer (sulgrevad--buffer-of tag)))
-    (if (and buffer (sulgrevad--is-whole tag)) (with-current-buffer buffer (sulgrevad--text))
-      (sulgrevad--shown tag nil nil sulgrevad--gap-words))))
+(defun sulgrevad--text-of (buffer tag)
+  "The text of BUFFER, or the shown one of the file TAG where it has none.
+It has words for what isn't loaded."
+  (let ((text (if buffer (with-current-buffer buffer (save-restriction (widen) (buffer-string))) (sulgrevad--shown tag)))
+        (at 0) (pieces nil))
+    (while (< at (length text))
+      (let ((end (next-single-property-change at 'sulgrevad-gap text (length text))))
+        (push (if (get-text-property at 'sulgrevad-gap text) (format sulgrevad--gap-words (- end at))
+                (substring-no-properties text at end))
+              pieces)
+        (setq at end)))
+    (apply #'concat (nreverse pieces))))
 
-(defun sulgrevad--keep-text (name tag text)
-  "Keep here the TEXT of the file NAME, which has the TAG.
-Return what to say of it."
-  (let ((path (sulgrevad--keep name text tag)) (buffer (sulgrevad--buffer-of tag)))
+(defun sulgrevad--keep-text (name tag)
+  "Keep here the text of the file NAME, which has the TAG.
+Without a tag it is that of the buffer.  Return what to say of it."
+  (let* ((buffer (if tag (sulgrevad--buffer-of tag) (current-buffer))) (text (sulgrevad--text-of buffer tag))
+         (path (sulgrevad--keep name text tag)))
     (unless path (sulgrevad--kill-text text))
-    (when buffer
-      (with-current-buffer buffer
-        (setq sulgrevad--has-drifted (null path))
-        (unless path (setq buffer-offer-save t)))) ; Emacs asks at its end
+    (when buffer (with-current-buffer buffer (setq sulgrevad--has-drifted (null path))))
     (format (if path "the text of %s is here in %s" "no file can be written here; the kill ring has the text of %s") name path)))
 
 (defun sulgrevad--may-lack (tag)
@@ -95,9 +103,9 @@ Return what to say of it."
 (defun sulgrevad--keep-all ()
   "Keep here each text that the host may not have.
 Return what to say of them."
-  (unless (and (sulgrevad--host-has-all) (sulgrevad--is-handed-over))
+  (if (and (sulgrevad--host-has-all) (sulgrevad--is-handed-over)) (sulgrevad--drop-copies)
     (cl-loop for (name . tag) in (sulgrevad--names)
-             when (sulgrevad--may-lack tag) collect (sulgrevad--keep-text name tag (sulgrevad--text-of tag)))))
+             when (sulgrevad--may-lack tag) collect (sulgrevad--keep-text name tag))))
 
 (defun sulgrevad--keep-modified ()
   "Keep here each modified buffer, where the client can't be asked.
@@ -105,41 +113,47 @@ So it is inside of a call of it that a signal broke off, or without
 memory."
   (cl-loop for buffer in sulgrevad--buffers
            when (and (buffer-live-p buffer) (buffer-modified-p buffer))
-           collect (with-current-buffer buffer (sulgrevad--keep-text (buffer-name) sulgrevad--tag (sulgrevad--text)))))
+           collect (with-current-buffer buffer (sulgrevad--keep-text (buffer-name) sulgrevad--tag))))
+
+(defun sulgrevad--drop-copies ()
+  "Remove the texts that are kept here: the host has all."
+  (dolist (copy sulgrevad--copies) (ignore-errors (delete-file (cadr copy))))
+  (setq sulgrevad--copies nil))
 
 (defun sulgrevad--keep-meanwhile ()
   "While the line is lost keep here what the host may not have.
 Where Emacs is killed then it is not lost.  It goes once the host has
 all."
-  (let ((has-all (sulgrevad-line-has-all sulgrevad--line)) (now (float-time)))
-    (cond ((and has-all (sulgrevad-line-is-open sulgrevad--line))
-           (dolist (copy sulgrevad--copies) (ignore-errors (delete-file (cdr copy))))
-           (setq sulgrevad--copies nil))
-          ((and (not has-all) (sulgrevad--is-late)
-                (<= sulgrevad-most-unkept (min (sulgrevad-line-silence sulgrevad--line) (- now sulgrevad--copied-at))))
-           (setq sulgrevad--copied-at now)
+  (let ((has-all (and (sulgrevad-state-has-all (sulgrevad--state)) (sulgrevad--is-handed-over))) (begun (sulgrevad-line--now)))
+    (cond ((and has-all (sulgrevad-line-is-open sulgrevad--line)) (sulgrevad--drop-copies))
+          ((and (not has-all) (sulgrevad--is-late) (<= sulgrevad--keeps-at begun))
            (cl-loop for (name . tag) in (sulgrevad--names)
-                    for path = (and (sulgrevad--may-lack tag) (sulgrevad--keep name (sulgrevad--text-of tag) tag))
-                    when path do (push (cons tag path) sulgrevad--copies))))))
+                    for text = (and (sulgrevad--may-lack tag) (sulgrevad--text-of (sulgrevad--buffer-of tag) tag))
+                    for path = (and text (not (equal text (cddr (assq tag sulgrevad--copies)))) (sulgrevad--keep name text tag))
+                    when path do (push `(,tag ,path . ,text) sulgrevad--copies))
+           (let ((end (sulgrevad-line--now)))
+             (setq sulgrevad--keeps-at (+ end (max (* 1000 sulgrevad-most-unkept) (/ (- end begun) sulgrevad-most-keeping)))))))))
 
 (defun sulgrevad--host-has-all ()
   "Whether the host has all that was done, and will keep it.
 It doesn't where it ends badly, or refuses us."
   (let ((has-ended-well (eql 0 sulgrevad--ended-with)) (state (sulgrevad--state)))
-    (or (and has-ended-well (sulgrevad-state-has-exited state)) ; it has answered what came last
+    (or (and has-ended-well (sulgrevad-state-has-exited state) ; it has answered what came last
+             (cl-notany (lambda (file) (sulgrevad-file-has-edits (sulgrevad--file (cdr file)))) (sulgrevad--names)))
         (and (sulgrevad-state-has-all state)
              (or has-ended-well sulgrevad--is-taken (null (sulgrevad-line-why sulgrevad--line)))))))
 
 (defun sulgrevad--is-handed-over ()
   "Whether the client knows each edit of all buffers."
-  (cl-notany (lambda (buffer) (and (buffer-live-p buffer) (with-current-buffer buffer (sulgrevad--waits)))) sulgrevad--buffers))
+  (cl-notany (lambda (buffer) (and (buffer-live-p buffer) (with-current-buffer buffer (and sulgrevad--tag (sulgrevad--waits)))))
+             sulgrevad--buffers))
 
 ;;; What an earlier session has kept here
 
 (defun sulgrevad--left-here (name)
   "The paths of the texts that earlier sessions kept of the file NAME.
 The one that was written last is the first."
-  (let ((pattern (concat "\\`" (regexp-quote (sulgrevad--kept-base name)) "\\(\\.[0-9]+\\)?\\'")) (own (mapcar #'cdr sulgrevad--copies)))
+  (let ((pattern (concat "\\`" (regexp-quote (sulgrevad--kept-base name)) "\\(\\.[0-9]+\\)?\\'")) (own (mapcar #'cadr sulgrevad--copies)))
     (sort (cl-loop for folder in (delete-dups (mapcar #'file-name-as-directory (sulgrevad--kept-folders)))
                    append (cl-loop for (path . about) in (ignore-errors (directory-files-and-attributes folder t pattern))
                                    when (and (null (file-attribute-type about)) (eql (file-attribute-user-id about) (user-uid))
@@ -175,12 +189,7 @@ When it is taken, undo takes it back, and it stays at PATH."
   "Have the buffer's text be TEXT.  Change only what differs; undo takes it back."
   (undo-boundary)
   (pcase (sulgrevad--difference (sulgrevad--text) text)
-    (`(,start ,end ,to)
-     (save-restriction
-       (widen)
-       (goto-char (1+ start))
-       (delete-region (point) (1+ end))
-       (insert (substring text start to))))))
+    (`(,start ,end ,to) (sulgrevad--put start end (substring text start to)))))
 
 (defun sulgrevad--recover (path)
   "Have the buffer's text be that at PATH."
@@ -209,7 +218,7 @@ Only where the client may not know all of it."
   (when (sulgrevad--waits)
     (sulgrevad--pump)                   ; who asked nobody
     (when (sulgrevad--waits) ; the buffer may be NAME<2>
-      (message "Sulgrevad: %s" (sulgrevad--keep-text (or sulgrevad--path (buffer-name)) sulgrevad--tag (sulgrevad--text))))))
+      (message "Sulgrevad: %s" (sulgrevad--keep-text (or sulgrevad--path (buffer-name)) sulgrevad--tag)))))
 
 (defun sulgrevad--may-end ()
   "Whether the session may end.
@@ -231,16 +240,14 @@ does not answer the session stays there."
     (when (sulgrevad--wait (lambda () (not (sulgrevad--is-late))))
       (ignore-errors (sulgrevad--ask 'exit)) ; no memory for it
       (sulgrevad--wait (lambda () (null sulgrevad--client)) sulgrevad-most-leaving))
-    (when sulgrevad--client (sulgrevad--lose (concat "the host does not answer; " (sulgrevad--how-to-take))))))
+    (sulgrevad--break-off "the host does not answer")))
 
-(defun sulgrevad--how-to-take ()
-  "How the user comes back to a session that stays."
-  (format "M-x sulgrevad-take goes on with session %s" (sulgrevad-line-name sulgrevad--line)))
-
-(defun sulgrevad--break-off ()
-  "Leave the session at the host where a signal ends Emacs.
+(defun sulgrevad--break-off (&optional why)
+  "Leave the session at the host, because of WHY, or where a signal ends Emacs.
 `sulgrevad--leave' has been called where it is `kill-emacs' that ends it."
-  (when sulgrevad--client (sulgrevad--lose (concat "Emacs ends; " (sulgrevad--how-to-take)))))
+  (when sulgrevad--client
+    (sulgrevad--lose (format "%s; M-x sulgrevad-take goes on with session %s"
+                             (or why "Emacs ends") (sulgrevad-line-name sulgrevad--line)))))
 
 (provide 'sulgrevad-copies)
 ;;; sulgrevad-copies.el ends here

@@ -20,7 +20,6 @@
 (define-error 'sulgrevad-error "Sulgrevad")
 (define-error 'sulgrevad-no-memory "Sulgrevad" 'sulgrevad-error) ; nothing is lost, and the call is to be made again later
 
-(defconst sulgrevad-line--late-after 2 "Seconds without an answer after which the line counts as late.")
 (defconst sulgrevad-line-retry 0.1 "Seconds until that for which memory was out is tried again.")
 (defconst sulgrevad-line--most-told 4096 "Characters of a line that a program has written to standard error.")
 (defconst sulgrevad-line--no-session 196 "The status of a host that does not find the session.")
@@ -41,33 +40,44 @@
   (told "") last-told      ; of standard error: a line that has begun, and the last one
   (asks "")                ; what stands on the terminal
   is-missing               ; whether the user was told that no host finds the session
+  is-held                  ; whether the client can't go on for now
   why                      ; why no connection comes any more
   timer)
 
 (cl-defstruct (sulgrevad-state (:type list) (:copier nil))
-  "How the client and its line are, as `sulgrevad-client-describe' has it."
-  line silence is-known has-all waiting is-acting is-command-locked has-exited tags)
+  "How the client and its line are, as `sulgrevad-client-describe' has it.
+The silence is in milliseconds, and 0 where no answer is due.  A line that
+is broken is late, too."
+  line silence is-known is-broken is-late has-all waiting is-acting is-command-locked has-exited tags)
+
+(defvar sulgrevad-line--read 0 "What the clock has said last, in milliseconds.")
+(defvar sulgrevad-line--back 0 "By how many milliseconds it was set back.")
 
 (defun sulgrevad-line--now ()
-  "The time in milliseconds.  Of an earlier one the library takes the greatest."
-  (truncate (* 1000 (float-time))))
+  "The time in milliseconds, also where the clock is set back.
+The module asks for it at each call."
+  (let ((now (truncate (* 1000 (float-time)))))
+    (setq sulgrevad-line--back (+ sulgrevad-line--back (max 0 (- sulgrevad-line--read now)))
+          sulgrevad-line--read now)
+    (+ now sulgrevad-line--back)))
 
 (defun sulgrevad-line-state (line)
   "How LINE and its client are."
-  (sulgrevad-client-describe (sulgrevad-line-client line) (sulgrevad-line--now)))
+  (sulgrevad-client-describe (sulgrevad-line-client line)))
 
 (defun sulgrevad-line-make (command receive &optional takes-over)
   "Make a line to a host of COMMAND, a list of words or a shell's line.
 RECEIVE is called with what comes: `came' when the client is to go on,
-and a second later at most; `told' and a line of a program's standard
-error; `lost' and why, once no connection comes any more.
+and a second later at most, and returns whether it can; `told' and a line
+of a program's standard error; `lost' and why, once no connection comes
+any more.
 With TAKES-OVER the session was another terminal's."
-  (let ((client (sulgrevad-client-make takes-over (sulgrevad-line--now))))
+  (pcase-let ((`(,client . ,id) (sulgrevad-client-make takes-over)))
     (sulgrevad-line--make
      :command (if (listp command) (append '("/bin/sh" "-c" "exec \"$@\"" "sh") command)
                 (list "/bin/sh" "-c" (concat command " \"$@\"") "sh"))
      :receive receive :client client :folder (if (file-remote-p default-directory) temporary-file-directory default-directory)
-     :name (mapconcat (lambda (byte) (format "%02x" byte)) (seq-take (sulgrevad-client-id client) 8) ""))))
+     :name (mapconcat (lambda (byte) (format "%02x" byte)) (seq-take id 8) ""))))
 
 ;;; Connections
 
@@ -79,10 +89,10 @@ that its programs may ask something."
   (setf (sulgrevad-line-unfed line) "")
   (condition-case why
       (progn (sulgrevad-line--run line (append (sulgrevad-line-command line) words) in-front)
-             (sulgrevad-client-connected (sulgrevad-line-client line) (sulgrevad-line--now)))
+             (sulgrevad-client-connected (sulgrevad-line-client line)))
     (error (sulgrevad-line--drop line)
            (when (sulgrevad-line-errors line) (delete-process (sulgrevad-line-errors line))) ; no program ends it
-           (sulgrevad-client-not-connected (sulgrevad-line-client line) (sulgrevad-line--now))
+           (sulgrevad-client-not-connected (sulgrevad-line-client line))
            (unless (sulgrevad-state-is-known (sulgrevad-line-state line)) (signal (car why) (cdr why)))))
   (sulgrevad-line-push line))
 
@@ -119,7 +129,7 @@ With IN-FRONT it gets a terminal."
   (let ((process (sulgrevad-line-process line)) (tty (sulgrevad-line-tty line)))
     (setf (sulgrevad-line-process line) nil (sulgrevad-line-tty line) nil)
     (when process
-      (sulgrevad-client-broken (sulgrevad-line-client line) (sulgrevad-line--now))
+      (sulgrevad-client-broken (sulgrevad-line-client line))
       (delete-process process))
     (when tty (delete-process tty))))
 
@@ -163,30 +173,31 @@ With PASSES-ON the connection ends once it has carried its last bytes."
 ;;; What is due by the clock
 
 (defun sulgrevad-line--is-timed (line)
-  "Whether the times of LINE count: not where the user waits for a connection."
-  (or (null (sulgrevad-line-tty line)) (sulgrevad-line-is-open line)))
+  "Whether the times of LINE count: not where the user waits for a connection.
+Nor do they where the client can't go on, and so asks the host for nothing."
+  (null (if (sulgrevad-line-is-open line) (sulgrevad-line-is-held line) (sulgrevad-line-tty line))))
 
 (defun sulgrevad-line--on-time (line)
   "Do what is due by the clock for LINE."
   (setf (sulgrevad-line-timer line) nil)
   (unless (sulgrevad-line-why line)
     (unless (string-empty-p (sulgrevad-line-unfed line)) (sulgrevad-line--feed line))
+    (setf (sulgrevad-line-is-held line) (not (funcall (sulgrevad-line-receive line) 'came nil)))
     (let (tick)
       (while (and (null (sulgrevad-line-why line)) (sulgrevad-line--is-timed line)
-                  (setq tick (sulgrevad-client-tick (sulgrevad-line-client line) (sulgrevad-line--now))))
+                  (setq tick (sulgrevad-client-tick (sulgrevad-line-client line))))
         (pcase tick
           ('connect (sulgrevad-line-connect-again line))
           ('drop (sulgrevad-line--break line)))))
-    (funcall (sulgrevad-line-receive line) 'came nil)
     (sulgrevad-line-schedule line)))
 
 (defun sulgrevad-line--delay (line)
   "Seconds until something is due by the clock for LINE, or nil.
 It is a second at most, since the mode line has the time."
-  (let ((left (and (sulgrevad-line--is-timed line) (sulgrevad-client-due-in (sulgrevad-line-client line) (sulgrevad-line--now)))))
+  (let ((left (and (sulgrevad-line--is-timed line) (sulgrevad-client-due-in (sulgrevad-line-client line)))))
     (cond ((not (string-empty-p (sulgrevad-line-unfed line))) sulgrevad-line-retry)
           (left (min 1 (/ left 1000.0)))
-          ((not (sulgrevad-line-is-open line)) 1))))
+          ((or (sulgrevad-line-is-held line) (not (sulgrevad-line-is-open line))) 1))))
 
 (defun sulgrevad-line-schedule (line &optional seconds)
   "Have LINE go on when something is due, in so many SECONDS at the latest."
@@ -205,7 +216,7 @@ It is a second at most, since the mode line has the time."
     (condition-case nil
         (while (and process (eq process (sulgrevad-line-process line)) (eq (process-status process) 'run)
                     (not (string-empty-p
-                          (setq bytes (sulgrevad-client-take-out (sulgrevad-line-client line) (sulgrevad-line--now))))))
+                          (setq bytes (sulgrevad-client-take-out (sulgrevad-line-client line))))))
           (process-send-string process bytes))
       (error (when (eq process (sulgrevad-line-process line)) (sulgrevad-line--break line)))) ; the next one brings them again
     (sulgrevad-line-schedule line)))
@@ -221,7 +232,7 @@ It is a second at most, since the mode line has the time."
   "Give the client of LINE what has come on the newest connection."
   (let ((inhibit-quit t))
     (condition-case nil
-        (let ((why (sulgrevad-client-receive (sulgrevad-line-client line) (sulgrevad-line-unfed line) (sulgrevad-line--now))))
+        (let ((why (sulgrevad-client-receive (sulgrevad-line-client line) (sulgrevad-line-unfed line))))
           (setf (sulgrevad-line-unfed line) "")
           (cond (why (sulgrevad-line--refused line why))
                 ((sulgrevad-line-is-open line) (setf (sulgrevad-line-is-missing line) nil))))
@@ -240,31 +251,13 @@ Where a session is not found, a try for which the user waits is the last."
 
 ;;; How the line is
 
-(defun sulgrevad-line-has-all (line)
-  "Whether the host is known to have all that the user of LINE did."
-  (sulgrevad-state-has-all (sulgrevad-line-state line)))
-
-(defun sulgrevad-line-silence (line)
-  "For how many seconds nothing has come on LINE.
-It is 0 where there is a line, and no answer is due."
-  (/ (sulgrevad-state-silence (sulgrevad-line-state line)) 1000.0))
-
-(defun sulgrevad-line-is-broken (line)
-  "Whether there is no connection of LINE, though there was one."
-  (let ((state (sulgrevad-line-state line)))
-    (and (sulgrevad-state-is-known state) (not (memq (sulgrevad-state-line state) '(open late))))))
-
-(defun sulgrevad-line-is-late (line)
-  "Whether there is no connection of LINE, or an answer of the host is late."
-  (or (sulgrevad-line-is-broken line) (<= sulgrevad-line--late-after (sulgrevad-line-silence line))))
-
 (defun sulgrevad-line-told-state (line)
   "How LINE is, for the mode line, or nil where it is well."
-  (let ((silence (sulgrevad-line-silence line)))
-    (cond ((not (sulgrevad-line-is-late line)) nil)
-          ((not (sulgrevad-line-is-broken line)) (format "no answer for %d s" silence))
+  (let* ((state (sulgrevad-line-state line)) (silence (/ (sulgrevad-state-silence state) 1000)))
+    (cond ((not (sulgrevad-state-is-late state)) nil)
+          ((not (sulgrevad-state-is-broken state)) (format "no answer for %d s" silence))
           ((sulgrevad-line-process line) (format "LINE LOST %d s, connecting" silence))
-          (t (let ((left (or (sulgrevad-client-due-in (sulgrevad-line-client line) (sulgrevad-line--now)) 0)))
+          (t (let ((left (or (sulgrevad-client-due-in (sulgrevad-line-client line)) 0)))
                (format "LINE LOST %d s, again in %d s" silence (round left 1000)))))))
 
 ;;; What its programs say and ask

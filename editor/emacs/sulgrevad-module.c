@@ -3,7 +3,7 @@
  * Bytes go to Lisp as unibyte strings. They come as strings of the characters U+0000 to U+00FF, one for each byte, because a module can't
  * read a unibyte string: the process speaks Latin-1. Texts go as what they are. A status that is not SAM_OK is a Lisp error with the
  * status's text, and SAM_NONE of a reader is nil. If memory is out the error is sulgrevad-no-memory: nothing is lost, and the call is to be
- * made again later. What a function returns that has failed Lisp ignores.
+ * made again later. What a function returns that has failed Lisp ignores. The time is that of `sulgrevad-line--now'.
  */
 #define _DEFAULT_SOURCE /* getentropy */
 #include <emacs-module.h>
@@ -25,14 +25,18 @@ SHOWN int plugin_is_GPL_compatible;
 enum {
     MOST_IN_PIPE = 49152, /* bytes that may be on their way to the host: fewer than a pipe takes */
     TEXT_ROOM = 4 * SAM_MOST_RUNES,
+    VERSION = 2, /* of the protocol */
 };
 
-/* A client, and what the program knows of its newest connection. */
+/* A client, what the program knows of its newest connection, and the call that Lisp makes of it. */
 struct session {
     sam_client client;
     uint64_t attempt;
-    int64_t given; /* up to this place of our stream the connection was given bytes; its hello counts as bytes before the first */
-    uint8_t id[SAM_LINK_ID_BYTES];
+    uint64_t given; /* up to this place of our stream the connection was given bytes, at most: its hello counts, too */
+    uint64_t now;
+    emacs_value *words; /* those behind the client */
+    uint8_t *text;      /* the last of them, where it is a text, in UTF-8, or bytes; and how many bytes these are */
+    size_t len;
 };
 
 /* ---- Values ---- */
@@ -43,11 +47,6 @@ static emacs_value call(emacs_env *env, const char *name, ptrdiff_t count, emacs
 }
 
 #define LIST(env, ...) call(env, "list", sizeof((emacs_value[]){__VA_ARGS__}) / sizeof(emacs_value), (emacs_value[]){__VA_ARGS__})
-
-static emacs_value nil(emacs_env *env)
-{
-    return env->intern(env, "nil");
-}
 
 static emacs_value truth(emacs_env *env, bool value)
 {
@@ -72,174 +71,131 @@ static emacs_value bytes_of(emacs_env *env, const uint8_t *bytes, size_t len)
 static emacs_value words_of(emacs_env *env, sam_status status)
 {
     const char *words = sam_status_text(status);
-    return env->make_string(env, words, (ptrdiff_t)strlen(words));
+    return text_of(env, (const uint8_t *)words, strlen(words));
 }
 
-static emacs_value error_of(emacs_env *env, sam_status status)
+/* What a call gives Lisp that has no result: nil, or an error. */
+static emacs_value done(emacs_env *env, sam_status status)
 {
     bool is_short = status == SAM_NO_MEMORY || status == SAM_UNFINISHED || status == SAM_WAITING;
     emacs_value error = env->intern(env, is_short ? "sulgrevad-no-memory" : "sulgrevad-error");
-    env->non_local_exit_signal(env, error, LIST(env, words_of(env, status)));
-    return nil(env);
+    if (status != SAM_OK && status != SAM_NONE)
+        env->non_local_exit_signal(env, error, LIST(env, words_of(env, status)));
+    return truth(env, false);
 }
 
-/* What a call gives Lisp that has no result, and one with a number. */
-static emacs_value done(emacs_env *env, sam_status status)
-{
-    return status == SAM_OK || status == SAM_NONE ? nil(env) : error_of(env, status);
-}
+/* Makes a function of Lisp's of such a call. */
+#define CALL(name, ...)                                                                                                                    \
+    static emacs_value name(emacs_env *env, struct session *session)                                                                       \
+    {                                                                                                                                      \
+        return done(env, __VA_ARGS__);                                                                                                     \
+    }
 
+/* What one gives Lisp that has a number. */
 static emacs_value number(emacs_env *env, sam_status status, uint64_t value)
 {
     return status == SAM_OK ? integer(env, value) : done(env, status);
 }
 
-static uint64_t time_of(emacs_env *env, emacs_value word)
-{
-    return (uint64_t)env->extract_integer(env, word);
-}
-
 /* A number that Lisp gives. One below 0 or above `most` becomes `most`, which the library refuses. */
-static uint32_t u32(emacs_env *env, emacs_value word, uint32_t most)
+static uint32_t u32(emacs_env *env, const struct session *session, size_t word, uint32_t most)
 {
-    intmax_t value = env->extract_integer(env, word);
+    intmax_t value = env->extract_integer(env, session->words[word]);
     return value < 0 || value > most ? most : (uint32_t)value;
 }
 
-static uint16_t tag_of(emacs_env *env, emacs_value word)
+static uint16_t tag_of(emacs_env *env, const struct session *session, size_t word)
 {
-    return (uint16_t)u32(env, word, UINT16_MAX);
+    return (uint16_t)u32(env, session, word, UINT16_MAX);
 }
 
-/* The UTF-8 of a string, to be freed, and its length in bytes; NULL if a Lisp error is on its way. */
-static uint8_t *utf8_in(emacs_env *env, emacs_value word, size_t *len)
+/* Reads the UTF-8 of a string, to be freed. */
+static void read_text(emacs_env *env, struct session *session, emacs_value word)
 {
     ptrdiff_t size = 0;
-    if (!env->copy_string_contents(env, word, NULL, &size))
-        return NULL;
-    char *bytes = malloc((size_t)size);
-    if (bytes == NULL) {
-        error_of(env, SAM_NO_MEMORY);
-    } else if (!env->copy_string_contents(env, word, bytes, &size)) {
-        free(bytes);
-        bytes = NULL;
-    }
-    *len = (size_t)size - 1;
-    return (uint8_t *)bytes;
+    session->len = 0;
+    session->text = env->copy_string_contents(env, word, NULL, &size) ? malloc((size_t)size) : NULL;
+    if (session->text != NULL && env->copy_string_contents(env, word, (char *)session->text, &size))
+        session->len = (size_t)size - 1;
+    else if (size > 0 && session->text == NULL)
+        done(env, SAM_NO_MEMORY);
 }
 
-/* The bytes for which the characters of a string stand, to be freed, and how many; NULL if a Lisp error is on its way. */
-static uint8_t *bytes_in(emacs_env *env, emacs_value word, size_t *len)
+/* Makes of a text the bytes for which its characters stand. One from U+0080 on has two bytes in UTF-8. */
+static void turn_into_bytes(struct session *session)
 {
-    size_t size = 0, count = 0;
-    uint8_t *bytes = utf8_in(env, word, &size);
-    for (size_t at = 0; bytes != NULL && at < size; count++) {
-        bool is_long = bytes[at] >= 0x80; /* such a character has two bytes here */
-        bytes[count] = is_long ? (uint8_t)(bytes[at] << 6 | (bytes[at + 1] & 0x3F)) : bytes[at];
+    uint8_t *text = session->text;
+    size_t count = 0;
+    for (size_t at = 0; at < session->len; count++) {
+        bool is_long = text[at] >= 0x80;
+        text[count] = is_long ? (uint8_t)(text[at] << 6 | (text[at + 1] & 0x3F)) : text[at];
         at += is_long ? 2 : 1;
     }
-    *len = count;
-    return bytes;
+    session->len = count;
 }
 
 /* ---- The line ---- */
 
-static sam_line_details details_of(struct session *session, uint64_t now)
+static sam_line_details details_of(struct session *session)
 {
     sam_line_details details = {0};
-    if (sam_client_describe(&session->client, now, &details) != SAM_OK)
+    if (sam_client_describe(&session->client, session->now, &details) != SAM_OK)
         details.state = SAM_LINE_LOST; /* which can't be: the client is made */
     return details;
 }
 
-static bool is_open(struct session *session, uint64_t now)
-{
-    uint32_t state = details_of(session, now).state;
-    return state == SAM_LINE_OPEN || state == SAM_LINE_LATE;
-}
-
-static emacs_value id(emacs_env *env, struct session *session, emacs_value *words)
-{
-    (void)words;
-    return bytes_of(env, session->id, sizeof session->id);
-}
-
-/* What is to be done at a time: `connect', `drop', `ask' or nil. */
-static emacs_value tick(emacs_env *env, struct session *session, emacs_value *words)
+/* What is to be done by now: `connect', `drop', `ask' or nil. */
+static emacs_value tick(emacs_env *env, struct session *session)
 {
     static const char *const ticks[] = {"nil", "connect", "drop", "ask"};
     uint32_t found = SAM_TICK_NOTHING;
-    sam_status status = sam_client_tick(&session->client, time_of(env, words[0]), &found);
-    return status == SAM_OK ? env->intern(env, ticks[found]) : error_of(env, status);
+    sam_status status = sam_client_tick(&session->client, session->now, &found);
+    return status == SAM_OK ? env->intern(env, ticks[found]) : done(env, status);
 }
 
 /* In how many milliseconds something is to be done, or nil. */
-static emacs_value due_in(emacs_env *env, struct session *session, emacs_value *words)
+static emacs_value due_in(emacs_env *env, struct session *session)
 {
     uint64_t left = 0;
-    sam_status status = sam_client_due_in(&session->client, time_of(env, words[0]), &left);
+    sam_status status = sam_client_due_in(&session->client, session->now, &left);
     return number(env, status, left);
 }
 
-static emacs_value connected(emacs_env *env, struct session *session, emacs_value *words)
+static emacs_value connected(emacs_env *env, struct session *session)
 {
-    uint64_t now = time_of(env, words[0]);
-    sam_status status = sam_client_connected(&session->client, now, &session->attempt);
-    session->given = (int64_t)details_of(session, now).acknowledged - SAM_LINK_HELLO_BYTES;
-    return done(env, status);
+    session->given = 0;
+    return done(env, sam_client_connected(&session->client, session->now, &session->attempt));
 }
 
-static emacs_value not_connected(emacs_env *env, struct session *session, emacs_value *words)
-{
-    return done(env, sam_client_not_connected(&session->client, time_of(env, words[0])));
-}
-
-static emacs_value broken(emacs_env *env, struct session *session, emacs_value *words)
-{
-    return done(env, sam_client_broken(&session->client, session->attempt, time_of(env, words[0])));
-}
-
+CALL(not_connected, sam_client_not_connected(&session->client, session->now))
+CALL(broken, sam_client_broken(&session->client, session->attempt, session->now))
 /* Whether a command waits for what the host tells: the library knows of tasks and locks alone. */
-static emacs_value expect(emacs_env *env, struct session *session, emacs_value *words)
-{
-    return done(env, sam_client_expect(&session->client, env->is_not_nil(env, words[0]), time_of(env, words[1])));
-}
+CALL(expect, sam_client_expect(&session->client, env->is_not_nil(env, session->words[0]), session->now))
+CALL(acknowledge, sam_client_acknowledge(&session->client))
 
 /* Bytes that came on the newest connection. nil if they are taken, else the number of why the connection, or the line, is over. */
-static emacs_value receive(emacs_env *env, struct session *session, emacs_value *words)
+static emacs_value receive(emacs_env *env, struct session *session)
 {
-    uint64_t now = time_of(env, words[1]);
-    bool was_open = is_open(session, now);
-    size_t len;
-    uint8_t *bytes = bytes_in(env, words[0], &len);
-    if (bytes == NULL)
-        return nil(env);
-    sam_status status = sam_client_receive(&session->client, session->attempt, bytes, len, now);
-    free(bytes);
-    if (!was_open && is_open(session, now) && session->attempt > 1)
-        session->given = (int64_t)details_of(session, now).acknowledged; /* it goes on where the host's welcome says */
-    return status == SAM_NO_MEMORY ? error_of(env, status) : status == SAM_OK ? nil(env) : integer(env, status);
+    sam_status status = sam_client_receive(&session->client, session->attempt, session->text, session->len, session->now);
+    return status == SAM_OK || status == SAM_NO_MEMORY ? done(env, status) : integer(env, status);
 }
 
 /* The next bytes for the newest connection. There are none if its pipe may take no more. */
-static emacs_value take_out(emacs_env *env, struct session *session, emacs_value *words)
+static emacs_value take_out(emacs_env *env, struct session *session)
 {
-    static uint8_t bytes[MOST_IN_PIPE + SAM_LINK_HELLO_BYTES];
-    int64_t under_way = session->given - (int64_t)details_of(session, time_of(env, words[0])).acknowledged;
+    static uint8_t bytes[MOST_IN_PIPE];
+    uint64_t acknowledged = details_of(session).acknowledged;
     size_t len = 0;
-    if (under_way < MOST_IN_PIPE) {
-        sam_status status = sam_client_take_out(&session->client, session->attempt, bytes, (size_t)(MOST_IN_PIPE - under_way), &len);
+    if (session->given < acknowledged)
+        session->given = acknowledged; /* it goes on there, as the host's welcome says */
+    if (session->given - acknowledged < MOST_IN_PIPE) {
+        size_t room = (size_t)(acknowledged + MOST_IN_PIPE - session->given);
+        sam_status status = sam_client_take_out(&session->client, session->attempt, bytes, room, &len);
         if (status != SAM_OK)
-            return error_of(env, status);
-        session->given += (int64_t)len;
+            return done(env, status);
+        session->given += len;
     }
     return bytes_of(env, bytes, len);
-}
-
-static emacs_value acknowledge(emacs_env *env, struct session *session, emacs_value *words)
-{
-    (void)words;
-    return done(env, sam_client_acknowledge(&session->client));
 }
 
 /* ---- What is told ---- */
@@ -255,8 +211,8 @@ static const char *const kinds[SAM_NOTE_NO_JOURNAL + 1] = {
     [SAM_NOTE_NOT_SAVED] = "not-saved", [SAM_NOTE_TAKEN_OVER] = "taken-over",
 };
 
-/* The message that was told last: how it was told, its kind, and its fields, paths as bytes. The kind is nil if it can't be read, since it
- * is of a later version. */
+/* The message that was told last: how it was told, its kind, and its fields but the copy's path; the path as bytes. The kind is nil if it
+ * can't be read, since it is of a later version. */
 static emacs_value note_of(emacs_env *env, sam_client *client, const char *told)
 {
     uint8_t bytes[SAM_LINK_MOST_NOTE];
@@ -268,7 +224,7 @@ static emacs_value note_of(emacs_env *env, sam_client *client, const char *told)
     const char *kind = status != SAM_OK ? "nil" : kinds[note.kind] != NULL ? kinds[note.kind] : "said";
     return LIST(env, env->intern(env, told), env->intern(env, kind), integer(env, note.request), integer(env, note.tag),
                 integer(env, note.code), integer(env, note.number), bytes_of(env, bytes + note.path_at, note.path_len),
-                bytes_of(env, bytes + note.copy_at, note.copy_len), text_of(env, bytes + note.text_at, note.text_len));
+                text_of(env, bytes + note.text_at, note.text_len));
 }
 
 /* The changes of the shown texts by the last step: `stepped', and of each its kind, its file, its place, and how many runes. */
@@ -287,122 +243,101 @@ static emacs_value step_of(emacs_env *env, sam_client *client)
 
 /* Goes on until something is told, as the functions above have it; or that a request was refused: `refused', why, and its number; or that a
  * command line has run: `ran', its number, and where in the command file stands what it printed, and how long. nil if nothing is. */
-static emacs_value next_event(emacs_env *env, struct session *session, emacs_value *words)
+static emacs_value next_event(emacs_env *env, struct session *session)
 {
     sam_client_event told = SAM_CLIENT_BUSY;
     sam_did did;
     sam_status status = SAM_OK;
     /* The end is told by itself. */
     while (status == SAM_OK && (told == SAM_CLIENT_BUSY || told == SAM_CLIENT_UNANSWERED || told == SAM_CLIENT_LAPSED))
-        status = sam_client_next_event(&session->client, time_of(env, words[0]), &told, &did);
+        status = sam_client_next_event(&session->client, session->now, &told, &did);
     if (status != SAM_OK)
-        return error_of(env, status);
+        return done(env, status);
     return told == SAM_CLIENT_STEPPED    ? step_of(env, &session->client)
            : told == SAM_CLIENT_NOTE     ? note_of(env, &session->client, "note")
            : told == SAM_CLIENT_ANSWERED ? note_of(env, &session->client, "answered")
            : told == SAM_CLIENT_REFUSED  ? LIST(env, env->intern(env, "refused"), words_of(env, did.why), integer(env, did.request))
-           : told == SAM_CLIENT_RAN      ? LIST(env, env->intern(env, "ran"), integer(env, did.request), integer(env, did.start),
-                                                integer(env, did.came))
-                                         : nil(env);
+           : told == SAM_CLIENT_RAN
+               ? LIST(env, env->intern(env, "ran"), integer(env, did.request), integer(env, did.start), integer(env, did.came))
+               : truth(env, false);
 }
 
 /* ---- What the user does ---- */
 
 /* Has samhost open a path, which is a string of bytes, or complete it, or read a file anew. The number of the task. */
-static emacs_value begin(emacs_env *env, struct session *session, emacs_value *words)
+static emacs_value begin(emacs_env *env, struct session *session)
 {
     uint32_t kind = SAM_NOTE_OPEN, task = 0;
-    while (kind < SAM_NOTE_RELOAD && !env->eq(env, words[0], env->intern(env, kinds[kind])))
+    while (kind < SAM_NOTE_RELOAD && !env->eq(env, session->words[0], env->intern(env, kinds[kind])))
         kind++;
-    size_t len = 0;
-    uint8_t *path = bytes_in(env, words[2], &len);
-    if (path == NULL)
-        return nil(env);
-    sam_status status = sam_client_begin(&session->client, kind, tag_of(env, words[1]), path, len, time_of(env, words[3]), &task);
-    free(path);
+    uint16_t tag = tag_of(env, session, 1);
+    sam_status status = sam_client_begin(&session->client, kind, tag, session->text, session->len, session->now, &task);
     return number(env, status, task);
 }
 
 /* Tells samhost that a file has by now what another one has, which was read anew. */
-static emacs_value reloaded(emacs_env *env, struct session *session, emacs_value *words)
+static emacs_value reloaded(emacs_env *env, struct session *session)
 {
-    sam_note note = {.kind = SAM_NOTE_RELOADED, .tag = tag_of(env, words[0]), .number = tag_of(env, words[1])};
+    sam_note note = {.kind = SAM_NOTE_RELOADED, .tag = tag_of(env, session, 0), .number = tag_of(env, session, 1)};
     uint8_t bytes[SAM_LINK_MOST_NOTE];
     size_t len = 0;
     sam_status status = sam_note_write(&note, bytes, bytes, bytes, bytes, sizeof bytes, &len);
     if (status == SAM_OK)
-        status = sam_client_put_note(&session->client, bytes, len, time_of(env, words[2]));
+        status = sam_client_put_note(&session->client, bytes, len, session->now);
     return done(env, status);
 }
 
 /* All of a file is shown: it is loaded. */
-static emacs_value see(emacs_env *env, struct session *session, emacs_value *words)
-{
-    return done(env, sam_client_see(&session->client, tag_of(env, words[0]), 0, SAM_MOST_RUNES));
-}
+CALL(see, sam_client_see(&session->client, tag_of(env, session, 0), 0, SAM_MOST_RUNES))
 
-/* Whether the status says why something can't be, which may be told the user. */
-static bool is_refusal(sam_status status)
+/* Why something can't be, which may be told the user, or nil. */
+static emacs_value refusal(emacs_env *env, sam_status status)
 {
-    return status == SAM_NOT_TEXT || (status > SAM_REFUSAL && status < SAM_SCRIPT);
+    bool is_told = status == SAM_NOT_TEXT || status == SAM_TOO_MANY || (status > SAM_REFUSAL && status < SAM_SCRIPT);
+    return is_told ? words_of(env, status) : done(env, status);
 }
 
 /* A text takes the place of the shown runes of a file from a place to a place. Why it can't, or nil. */
-static emacs_value replace(emacs_env *env, struct session *session, emacs_value *words)
+static emacs_value replace(emacs_env *env, struct session *session)
 {
-    uint32_t start = u32(env, words[1], UINT32_MAX), end = u32(env, words[2], UINT32_MAX);
-    size_t len = 0;
-    uint8_t *text = utf8_in(env, words[3], &len);
-    if (text == NULL)
-        return nil(env);
-    sam_status status = sam_client_replace(&session->client, tag_of(env, words[0]), start, end, text, len);
-    free(text);
-    return is_refusal(status) ? words_of(env, status) : done(env, status);
+    uint32_t start = u32(env, session, 1, UINT32_MAX), end = u32(env, session, 2, UINT32_MAX);
+    return refusal(env, sam_client_replace(&session->client, tag_of(env, session, 0), start, end, session->text, session->len));
 }
 
-/* Asks for an event of a kind, with a file, two numbers and a text, which are not read if the kind has none. */
-static emacs_value ask(emacs_env *env, struct session *session, emacs_value *words)
+/* Asks for an event of a kind, with a file and two places, which are not read if the kind has none. */
+static emacs_value ask(emacs_env *env, struct session *session)
 {
     static const char *const names[] = {
         [SAM_EVENT_SELECT] = "select", [SAM_EVENT_OPEN] = "open", [SAM_EVENT_WRITE] = "write",
         [SAM_EVENT_CLOSE] = "close",   [SAM_EVENT_EXIT] = "exit", [SAM_EVENT_OFFER_VERSION] = "offer-version"};
-    sam_event event = {.tag = tag_of(env, words[1]), .start = u32(env, words[2], UINT32_MAX), .number = u32(env, words[3], UINT32_MAX)};
-    event.version = (uint16_t)event.number;
+    sam_event event = {.tag = tag_of(env, session, 1), .version = VERSION};
+    event.start = u32(env, session, 2, UINT32_MAX);
+    event.number = u32(env, session, 3, UINT32_MAX);
     for (size_t i = 0; i < sizeof names / sizeof names[0]; i++)
-        if (names[i] != NULL && env->eq(env, words[0], env->intern(env, names[i])))
+        if (names[i] != NULL && env->eq(env, session->words[0], env->intern(env, names[i])))
             event.kind = (sam_event_kind)i;
-    size_t len = 0;
-    uint8_t *text = utf8_in(env, words[4], &len);
-    if (text == NULL)
-        return nil(env);
     uint64_t request;
-    sam_status status = sam_client_ask(&session->client, &event, text, len, &request);
-    free(text);
-    return status == SAM_NONE ? error_of(env, status) : done(env, status);
+    return done(env, sam_client_ask(&session->client, &event, (const uint8_t *)"", 0, &request));
 }
 
 /* Has the host run a command line on a file. The number of its request, or words why it can't. */
-static emacs_value run(emacs_env *env, struct session *session, emacs_value *words)
+static emacs_value run(emacs_env *env, struct session *session)
 {
-    size_t len = 0;
-    uint8_t *line = utf8_in(env, words[1], &len);
-    if (line == NULL)
-        return nil(env);
     uint64_t request = 0;
-    sam_status status = sam_client_run(&session->client, tag_of(env, words[0]), line, len, &request);
-    free(line);
-    return is_refusal(status) || status == SAM_TOO_MANY ? words_of(env, status) : number(env, status, request);
+    sam_status status = sam_client_run(&session->client, tag_of(env, session, 0), session->text, session->len, &request);
+    return status == SAM_OK ? integer(env, request) : refusal(env, status);
 }
 
 /* ---- Readers ---- */
 
-/* How the session is, as a list: the line's state; for how many milliseconds it is silent; whether a host was met, and whether it has all;
+/* How the session is, as a list: the line's state; for how many milliseconds it is silent; whether a host was met; whether there is no
+ * connection though there was one, and whether there is none, or an answer is overdue; whether the host has all;
  * how many requests wait, and whether one, or an edit, is to act next; whether the command line is locked; whether the session has ended;
  * how many tags there are. */
-static emacs_value describe(emacs_env *env, struct session *session, emacs_value *words)
+static emacs_value describe(emacs_env *env, struct session *session)
 {
     static const char *const states[] = {"down", "connecting", "open", "late", "lost"};
-    sam_line_details line = details_of(session, time_of(env, words[0]));
+    sam_line_details line = details_of(session);
     sam_state state;
     bool has_all = false;
     size_t requests = 0;
@@ -412,16 +347,17 @@ static emacs_value describe(emacs_env *env, struct session *session, emacs_value
     if (status == SAM_OK)
         status = sam_client_requests(&session->client, &requests);
     if (status != SAM_OK)
-        return error_of(env, status);
-    return LIST(env, env->intern(env, states[line.state]), integer(env, line.silence), truth(env, line.is_known), truth(env, has_all),
+        return done(env, status);
+    return LIST(env, env->intern(env, states[line.state]), integer(env, line.silence), truth(env, line.is_known),
+                truth(env, line.is_broken), truth(env, line.is_broken || line.silence >= line.overdue_after), truth(env, has_all),
                 integer(env, requests + state.held), truth(env, state.held > 0), truth(env, state.command_locked), truth(env, state.exited),
                 integer(env, state.tags));
 }
 
 /* How a file is: whether it is known, open, locked, unsaved, and has edits that wait; how many runes are shown; where its dot is. */
-static emacs_value file(emacs_env *env, struct session *session, emacs_value *words)
+static emacs_value file(emacs_env *env, struct session *session)
 {
-    uint16_t tag = tag_of(env, words[0]), edited = 0;
+    uint16_t tag = tag_of(env, session, 0), edited = 0;
     sam_file file;
     bool is_unsaved = false;
     uint32_t len = 0;
@@ -431,24 +367,24 @@ static emacs_value file(emacs_env *env, struct session *session, emacs_value *wo
     if (status == SAM_OK && file.is_open)
         status = sam_client_len(&session->client, tag, &len);
     if (status != SAM_OK)
-        return error_of(env, status);
+        return done(env, status);
     bool has_edits = sam_client_next_waiting(&session->client, tag, &edited) == SAM_OK && edited == tag;
     return LIST(env, truth(env, file.is_known), truth(env, file.is_open), truth(env, file.is_locked), truth(env, is_unsaved),
                 truth(env, has_edits), integer(env, len), integer(env, file.dot_start), integer(env, file.dot_end));
 }
 
-static emacs_value name(emacs_env *env, struct session *session, emacs_value *words)
+static emacs_value name(emacs_env *env, struct session *session)
 {
     uint8_t bytes[SAM_MOST_NAME_BYTES];
     size_t len;
-    sam_status status = sam_client_name(&session->client, tag_of(env, words[0]), bytes, sizeof bytes, &len);
+    sam_status status = sam_client_name(&session->client, tag_of(env, session, 0), bytes, sizeof bytes, &len);
     return status == SAM_OK ? text_of(env, bytes, len) : done(env, status);
 }
 
-static emacs_value first_gap(emacs_env *env, struct session *session, emacs_value *words)
+static emacs_value first_gap(emacs_env *env, struct session *session)
 {
     uint32_t gap = 0;
-    sam_status status = sam_client_first_gap(&session->client, tag_of(env, words[0]), 0, &gap);
+    sam_status status = sam_client_first_gap(&session->client, tag_of(env, session, 0), 0, &gap);
     return number(env, status, gap);
 }
 
@@ -465,14 +401,14 @@ static size_t put_rune(uint32_t rune, uint8_t *into)
 }
 
 /* So many shown runes of a file from a place on, as a list of texts and of numbers, which count gaps. */
-static emacs_value pieces(emacs_env *env, struct session *session, emacs_value *words)
+static emacs_value pieces(emacs_env *env, struct session *session)
 {
     static uint32_t runes[SAM_MOST_RUNES];
-    uint32_t found = 0, place = u32(env, words[1], UINT32_MAX), count = u32(env, words[2], SAM_MOST_RUNES);
-    sam_status status = sam_client_read(&session->client, tag_of(env, words[0]), place, runes, count, &found);
+    uint32_t found = 0, place = u32(env, session, 1, UINT32_MAX), count = u32(env, session, 2, SAM_MOST_RUNES);
+    sam_status status = sam_client_read(&session->client, tag_of(env, session, 0), place, runes, count, &found);
     if (status != SAM_OK)
         return done(env, status);
-    emacs_value all = nil(env);
+    emacs_value all = truth(env, false);
     for (uint32_t at = 0; at < found;) {
         uint32_t from = at;
         size_t len = 0;
@@ -487,16 +423,15 @@ static emacs_value pieces(emacs_env *env, struct session *session, emacs_value *
 
 /* Takes back the next text for which the host left no room: its file, its place, how many runes went of the shown text, and itself. nil if
  * there is none. */
-static emacs_value drop_next(emacs_env *env, struct session *session, emacs_value *words)
+static emacs_value drop_next(emacs_env *env, struct session *session)
 {
-    (void)words;
     sam_splice splice;
     size_t len = 0;
     uint16_t tag = 0;
     sam_status status = SAM_NONE;
     for (bool is_more = true; is_more && status == SAM_NONE; is_more = tag++ < UINT16_MAX) {
         if (sam_client_next_waiting(&session->client, tag, &tag) != SAM_OK)
-            return nil(env);
+            return truth(env, false);
         status = sam_client_drop_next(&session->client, tag, &splice, text_room, sizeof text_room, &len);
     }
     if (status != SAM_OK)
@@ -506,43 +441,68 @@ static emacs_value drop_next(emacs_env *env, struct session *session, emacs_valu
 
 /* ---- The module ---- */
 
+enum last_word { VALUE, TEXT, BYTES };
+
 struct function {
     const char *name;
-    emacs_value (*of)(emacs_env *env, struct session *session, emacs_value *words);
+    emacs_value (*of)(emacs_env *env, struct session *session);
     ptrdiff_t count; /* of words behind the client */
+    enum last_word last;
 };
 
 static const struct function functions[] = {
-    {"id", id, 0},
-    {"ask", ask, 5},
-    {"run", run, 2},
-    {"see", see, 1},
-    {"tick", tick, 1},
-    {"file", file, 1},
-    {"name", name, 1},
-    {"due-in", due_in, 1},
-    {"begin", begin, 4},
-    {"broken", broken, 1},
-    {"expect", expect, 2},
-    {"pieces", pieces, 3},
-    {"receive", receive, 2},
-    {"replace", replace, 4},
-    {"reloaded", reloaded, 3},
-    {"take-out", take_out, 1},
-    {"describe", describe, 1},
-    {"connected", connected, 1},
-    {"drop-next", drop_next, 0},
-    {"first-gap", first_gap, 1},
-    {"next-event", next_event, 1},
-    {"acknowledge", acknowledge, 0},
-    {"not-connected", not_connected, 1},
+    {"ask", ask, 4, VALUE},
+    {"run", run, 2, TEXT},
+    {"see", see, 1, VALUE},
+    {"tick", tick, 0, VALUE},
+    {"file", file, 1, VALUE},
+    {"name", name, 1, VALUE},
+    {"begin", begin, 3, BYTES},
+    {"broken", broken, 0, VALUE},
+    {"due-in", due_in, 0, VALUE},
+    {"expect", expect, 1, VALUE},
+    {"pieces", pieces, 3, VALUE},
+    {"receive", receive, 1, BYTES},
+    {"replace", replace, 4, TEXT},
+    {"describe", describe, 0, VALUE},
+    {"reloaded", reloaded, 2, VALUE},
+    {"take-out", take_out, 0, VALUE},
+    {"connected", connected, 0, VALUE},
+    {"drop-next", drop_next, 0, VALUE},
+    {"first-gap", first_gap, 1, VALUE},
+    {"next-event", next_event, 0, VALUE},
+    {"acknowledge", acknowledge, 0, VALUE},
+    {"not-connected", not_connected, 0, VALUE},
 };
 
+static uint64_t time_of(emacs_env *env)
+{
+    return (uint64_t)env->extract_integer(env, call(env, "sulgrevad-line--now", 0, NULL));
+}
+
+static bool is_well(emacs_env *env)
+{
+    return env->non_local_exit_check(env) == emacs_funcall_exit_return;
+}
+
+/* Calls a function, but not where Lisp has given what it doesn't take, or a quit comes. */
 static emacs_value invoke(emacs_env *env, ptrdiff_t count, emacs_value *words, void *data)
 {
-    (void)count;
+    const struct function *function = data;
     struct session *session = env->get_user_ptr(env, words[0]);
-    return session == NULL ? nil(env) : ((const struct function *)data)->of(env, session, words + 1);
+    uint64_t now = time_of(env);
+    if (!is_well(env))
+        return words[0];
+    session->now = now;
+    session->words = words + 1;
+    session->text = NULL;
+    if (function->last != VALUE)
+        read_text(env, session, words[count - 1]);
+    if (function->last == BYTES)
+        turn_into_bytes(session);
+    emacs_value answer = is_well(env) ? function->of(env, session) : words[0];
+    free(session->text);
+    return answer;
 }
 
 static void finalize(void *pointer)
@@ -551,17 +511,18 @@ static void finalize(void *pointer)
     free(pointer);
 }
 
-/* Makes a client with a random id, to take a session over if the first word is not nil, at a time. */
+/* Makes a client with a random id, to take a session over if the word is not nil. In a pair with the id. */
 static emacs_value make(emacs_env *env, ptrdiff_t count, emacs_value *words, void *data)
 {
     (void)count, (void)data;
+    uint8_t id[SAM_LINK_ID_BYTES];
     struct session *session = calloc(1, sizeof *session);
-    if (session == NULL || getentropy(session->id, sizeof session->id) != 0 ||
-        sam_client_new(&session->client, session->id, env->is_not_nil(env, words[0]), time_of(env, words[1])) != SAM_OK) {
+    if (session == NULL || getentropy(id, sizeof id) != 0 ||
+        sam_client_new(&session->client, id, env->is_not_nil(env, words[0]), time_of(env)) != SAM_OK) {
         free(session);
-        return error_of(env, SAM_NO_MEMORY);
+        return done(env, SAM_NO_MEMORY);
     }
-    return env->make_user_ptr(env, finalize, session);
+    return call(env, "cons", 2, (emacs_value[]){env->make_user_ptr(env, finalize, session), bytes_of(env, id, sizeof id)});
 }
 
 static void define(emacs_env *env, const char *name, emacs_value function)
@@ -576,7 +537,7 @@ SHOWN int emacs_module_init(struct emacs_runtime *runtime)
     emacs_env *env = runtime->get_environment(runtime);
     if ((size_t)runtime->size < sizeof *runtime || (size_t)env->size < sizeof *env)
         return 1;
-    define(env, "make", env->make_function(env, 2, 2, make, NULL, NULL));
+    define(env, "make", env->make_function(env, 1, 1, make, NULL, NULL));
     for (size_t i = 0; i < sizeof functions / sizeof functions[0]; i++) {
         ptrdiff_t count = functions[i].count + 1;
         define(env, functions[i].name, env->make_function(env, count, count, invoke, NULL, (void *)(uintptr_t)&functions[i]));

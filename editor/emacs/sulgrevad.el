@@ -5,30 +5,17 @@
 ;;; Commentary:
 
 ;; Build the module by editor/emacs/build (which has a word on licences), and begin Emacs with -L editor/emacs -l sulgrevad.  M-x
-;; sulgrevad-start begins a session, whose host a command runs, as "ssh box samhost".  It stays at the host when its line breaks: Emacs goes
-;; on with it by itself, and M-x sulgrevad-take takes it up again later, or from another machine.  docs/howto/EDITOR.md says who may
-;; do that.
+;; sulgrevad-start begins a session.  docs/howto/EMACS.md says what the keys and commands do.
 ;;
-;; In a session's buffer C-x C-f opens a path at the host (C-u C-x C-f one of this machine), C-x C-s and C-x s have the host write, C-x C-w
-;; under another path, M-x revert-buffer reads the file anew, and C-c , runs a command line of sam on the buffer.  M-x sulgrevad-find shows
-;; another file of the session, C-x # closes the file for good, M-x sulgrevad-reconnect tries a lost line now, where ssh may ask for a
-;; password, and M-x sulgrevad-quit leaves.
-;;
-;; sulgrevad-buffer.el says how a buffer and the client's text stay the same, sulgrevad-session.el what goes on by itself,
-;; sulgrevad-copies.el what becomes of text that the host may not have, sulgrevad-line.el how the line goes over processes.
+;; Each file stands on the next: sulgrevad-copies.el says what becomes of text that the host may not have, sulgrevad-session.el what goes
+;; on by itself, sulgrevad-buffer.el how a buffer and the client's text stay the same, sulgrevad-line.el how the line goes over processes.
 
 ;;; Code:
 
-(require 'cl-lib)
-(require 'subr-x)
-(require 'sulgrevad-buffer)
 (require 'sulgrevad-copies)
-(require 'sulgrevad-line)
-(require 'sulgrevad-session)
 
-(defconst sulgrevad-version-offered 2 "The version of the protocol.")
 (defconst sulgrevad--is-folder 5 "The code of a path that is a folder's.")
-(defconst sulgrevad--replacing '((11 . "another program changed it") (12 . "it is there already"))
+(defconst sulgrevad--replacing '((11 . "another program changed it") (12 . "it is there already") (24 . "it can't be read"))
   "Codes of writes that would have replaced what stands in the file.")
 
 (defvar sulgrevad--history nil "Commands that have run hosts.")
@@ -45,11 +32,7 @@
 
 (define-minor-mode sulgrevad-mode
   "The buffer's file lies behind a host."
-  :lighter (:eval (sulgrevad--lighter)))
-
-(defun sulgrevad--lighter ()
-  "The mode line's word on how the line is."
-  (concat " Sam" (sulgrevad--in-words "[%s]")))
+  :lighter (" Sam" (:eval (sulgrevad--in-words "[%s]"))))
 
 ;;; Sessions
 
@@ -58,7 +41,7 @@
 WORDS is a function of the session's name.  TAKES-OVER says that it was
 another terminal's."
   (when sulgrevad--client (user-error "There is a session already"))
-  (setq sulgrevad--buffers nil sulgrevad--told nil sulgrevad--lines nil sulgrevad--complaints nil
+  (setq sulgrevad--buffers nil sulgrevad--told nil sulgrevad--complaints nil
         sulgrevad--hidden nil sulgrevad--answers nil sulgrevad--wishes nil sulgrevad--copies nil sulgrevad--ended-with nil
         sulgrevad--is-named nil sulgrevad--is-taken nil sulgrevad--folder default-directory)
   (let (line)
@@ -66,20 +49,15 @@ another terminal's."
                 command (lambda (event what) (when (eq line sulgrevad--line) (sulgrevad--hear event what))) takes-over)
           sulgrevad--line line
           sulgrevad--client (sulgrevad-line-client line))
-    (condition-case why (sulgrevad-line-connect line (funcall words (sulgrevad-line-name line)) t)
-      ((error quit) (setq sulgrevad--client nil sulgrevad--line nil)
-                    (signal (car why) (cdr why))))
     (dolist (hook sulgrevad--global-hooks) (add-hook (car hook) (cadr hook)))
     (advice-add 'kill-emacs :before #'sulgrevad--leave)
-    (condition-case why (sulgrevad--await-names)
+    (condition-case why
+        (progn (sulgrevad-line-connect line (funcall words (sulgrevad-line-name line)) t)
+               (sulgrevad--ask 'offer-version) ; it brings the names of the session's files
+               (unless (sulgrevad--wait #'sulgrevad--is-idle t)
+                 (user-error "The host is gone: %s" (string-join (reverse sulgrevad--told) "; "))))
       ((error quit) (sulgrevad--lose "the session did not begin")
                     (signal (car why) (cdr why))))))
-
-(defun sulgrevad--await-names ()
-  "Wait until the host has told the names of the session's files."
-  (sulgrevad--ask 'offer-version 0 0 sulgrevad-version-offered)
-  (unless (sulgrevad--wait #'sulgrevad--is-idle t)
-    (user-error "The host is gone: %s" (string-join (reverse sulgrevad--told) "; "))))
 
 (defun sulgrevad--show-first ()
   "Show the first file of the session, or read the path of one."
@@ -124,10 +102,12 @@ files were not written; undo doesn't."
   (interactive)
   (unless sulgrevad--client (user-error "There is no session"))
   (when (or (sulgrevad--is-late) (not (sulgrevad-line-is-open sulgrevad--line)))
-    (sulgrevad-line-connect-again sulgrevad--line t)
-    (if (sulgrevad--wait (lambda () (sulgrevad-line-is-open sulgrevad--line)) t)
-        (message "The line is back")
-      (message "The line is still lost"))))
+    (unwind-protect
+        (progn (sulgrevad-line-connect-again sulgrevad--line t)
+               (message "The line is %s"
+                        (if (sulgrevad--wait (lambda () (sulgrevad-line-is-open sulgrevad--line)) t) "back" "still lost")))
+      (when (and sulgrevad--line (not (sulgrevad-line-is-open sulgrevad--line))) ; who has given up answers no question of it
+        (sulgrevad-line--break sulgrevad--line)))))
 
 (defun sulgrevad-quit ()
   "End the session; ask first where a file was not written."
@@ -141,18 +121,17 @@ files were not written; undo doesn't."
 
 ;;; Files
 
-(defun sulgrevad--left-buffer (name)
-  "The buffer of the file NAME that is left of an earlier session, or nil.
-Not one whose text stands nowhere else."
-  (cl-find-if (lambda (buffer) (with-current-buffer buffer (and (equal sulgrevad--path name) (sulgrevad--is-left)))) (buffer-list)))
-
 (defun sulgrevad--show (tag)
-  "The buffer of the file TAG, which is opened and loaded where it is not."
+  "The buffer of the file TAG, which is opened and loaded where it is not.
+One that an earlier session left is used again."
   (or (sulgrevad--buffer-of tag)
       (let ((name (sulgrevad-client-name sulgrevad--client tag)))
         (sulgrevad--await-whole tag (sulgrevad--base name))
-        (with-current-buffer (or (sulgrevad--left-buffer name) (generate-new-buffer (sulgrevad--base name)))
-          (sulgrevad--fill tag name)
+        (with-current-buffer (or (cl-find-if (lambda (buffer)
+                                               (with-current-buffer buffer (and (equal sulgrevad--path name) (sulgrevad--is-left))))
+                                             (buffer-list))
+                                 (generate-new-buffer (sulgrevad--base name)))
+          (let ((inhibit-quit t)) (sulgrevad--fill tag name)) ; what is typed into a half of it would go nowhere
           (goto-char (point-min))
           (current-buffer)))))
 
@@ -160,9 +139,8 @@ Not one whose text stands nowhere else."
   "Have the buffer become that of the file TAG, which has this NAME and is loaded."
   (setq sulgrevad--tag tag
         sulgrevad--path name
-        list-buffers-directory name
         sulgrevad--self (current-buffer))
-  (sulgrevad--put-all)
+  (let ((buffer-undo-list t)) (sulgrevad--put-back))
   (setq buffer-read-only nil
         buffer-undo-list nil
         sulgrevad--host-changes nil
@@ -184,40 +162,30 @@ Not one whose text stands nowhere else."
   (let* ((reporter nil)
          (tell (lambda ()
                  (unless reporter (setq reporter (make-progress-reporter (format "Loading %s..." name) 0 100)))
-                 (progress-reporter-force-update reporter (sulgrevad--percent tag) nil (sulgrevad--in-words "%s; C-g stops")))))
-    (unless (sulgrevad--wait (lambda () (sulgrevad--is-here tag)) t tell)
+                 (let ((len (if sulgrevad--client (sulgrevad-file-len (sulgrevad--file tag)) 0)))
+                   (progress-reporter-force-update
+                    reporter (if (= 0 len) 0 (/ (* 100 (or (sulgrevad-client-first-gap sulgrevad--client tag) len)) len))
+                    nil (sulgrevad--in-words "%s; C-g stops"))))))
+    (unless (sulgrevad--wait (lambda () (and (sulgrevad-file-is-open (sulgrevad--file tag)) (sulgrevad--is-answered tag))) t tell)
       (error "%s is not loaded: the host does not answer" name))
     (when reporter (progress-reporter-done reporter))))
-
-(defun sulgrevad--is-here (tag)
-  "Whether the file TAG is open and loaded.
-As long as the answer that opens it locks it, its text may be still to
-come."
-  (let ((file (sulgrevad--file tag)))
-    (and (sulgrevad-file-is-open file) (not (sulgrevad-file-is-locked file)) (sulgrevad--is-whole tag))))
-
-(defun sulgrevad--percent (tag)
-  "How much of the file TAG is loaded."
-  (let ((len (if sulgrevad--client (sulgrevad-file-len (sulgrevad--file tag)) 0)))
-    (if (= 0 len) 0 (/ (* 100 (or (sulgrevad-client-first-gap sulgrevad--client tag) len)) len))))
 
 (defun sulgrevad--set-mode (name)
   "Choose the major mode for the file NAME.
 Its hooks run where no file is visited: that of this path is elsewhere."
-  (delay-mode-hooks
-    (let ((buffer-file-name name)) (set-auto-mode)))
-  (run-mode-hooks))
+  (with-local-quit
+    (with-demoted-errors "File mode specification error: %S"
+      (delay-mode-hooks
+        (let ((buffer-file-name name)) (set-auto-mode)))
+      (run-mode-hooks))))
 
 (defun sulgrevad--question (kind path &optional tag)
   "Ask the host by a request of KIND about PATH, or the file TAG.
 Return its answer."
   (let* ((bytes (decode-coding-string (encode-coding-string path 'utf-8-unix) 'latin-1-unix))
-         (answer (list (sulgrevad-client-begin sulgrevad--client kind (or tag 0) bytes (sulgrevad-line--now)))))
-    (push answer sulgrevad--answers)
-    (unwind-protect
-        (progn (unless (eq kind 'complete) (sulgrevad--ask 'offer-version 0 0 sulgrevad-version-offered))
-               (or (sulgrevad--wait (lambda () (cdr answer))) (sulgrevad--refuse "That")))
-      (setq sulgrevad--answers (delq answer sulgrevad--answers)))))
+         (task (sulgrevad-client-begin sulgrevad--client kind (or tag 0) bytes)))
+    (unless (eq kind 'complete) (sulgrevad--ask 'offer-version))
+    (or (sulgrevad--await-answer 'task task) (sulgrevad--refuse))))
 
 (defun sulgrevad--is-named (tag)
   "Whether the host has told the name of the file TAG, and all others."
@@ -225,7 +193,7 @@ Return its answer."
 
 (defun sulgrevad--await-name (tag)
   "Wait until the host has told the name of the file TAG."
-  (unless (sulgrevad--wait (lambda () (sulgrevad--is-named tag))) (sulgrevad--refuse "That")))
+  (unless (sulgrevad--wait (lambda () (sulgrevad--is-named tag))) (sulgrevad--refuse)))
 
 (defun sulgrevad--open-path (path)
   "Have the host open PATH.  Return its tag."
@@ -243,10 +211,10 @@ A path is seen from the folder in which samhost runs.  With a prefix
 argument, read a file name of this machine."
   (interactive
    (if current-prefix-arg (list nil)
-     (sulgrevad--need-host "That")
+     (sulgrevad--need-host)
      (list (sulgrevad--read-path "Find file at the host: "))))
   (if (null path) (call-interactively #'find-file)
-    (sulgrevad--need-host "That")
+    (sulgrevad--need-host)
     (switch-to-buffer (sulgrevad--show (sulgrevad--open-path (sulgrevad--plain path))))))
 
 (defun sulgrevad-find (name)
@@ -255,15 +223,15 @@ argument, read a file name of this machine."
                       (list (completing-read "File of the session: " (sulgrevad--names) nil t))))
   (let ((tag (cdr (assoc name (sulgrevad--names)))))
     (unless tag (user-error "The session has no file %s" name))
-    (unless (sulgrevad--buffer-of tag) (sulgrevad--need-host "That"))
+    (unless (sulgrevad--buffer-of tag) (sulgrevad--need-host))
     (switch-to-buffer (sulgrevad--show tag))))
 
-(defun sulgrevad-close (&optional kills)
+(defun sulgrevad-close ()
   "Close the buffer's file for good, and kill the buffer.
-\"samhost --open --wait\" waits for that.  With KILLS don't ask."
+\"samhost --open --wait\" waits for that."
   (interactive)
-  (sulgrevad--settle "That")
-  (when (or kills (not (sulgrevad-file-is-unsaved (sulgrevad--file sulgrevad--tag)))
+  (sulgrevad--settle)
+  (when (or (not (sulgrevad-file-is-unsaved (sulgrevad--file sulgrevad--tag)))
             (yes-or-no-p (format "%s was not written; close it all the same? " (buffer-name))))
     (sulgrevad--ask 'close sulgrevad--tag)
     (sulgrevad--let-go)
@@ -274,11 +242,11 @@ argument, read a file name of this machine."
   "Show a file that somebody wishes shown, as samhost --open does.
 Where that can't be now, it is tried again."
   (cond ((not (and sulgrevad--wishes sulgrevad--client)))
-        ((or (sulgrevad--is-late) (active-minibuffer-window))
+        ((or (sulgrevad--is-late) (sulgrevad--is-amid) (active-minibuffer-window) (< 0 (length (this-command-keys-vector))))
          (run-with-timer sulgrevad-rest nil #'run-with-idle-timer sulgrevad-rest nil #'sulgrevad--show-wished))
         (t (pcase-let ((`(,tag . ,line) (pop sulgrevad--wishes)))
              (with-local-quit           ; a timer has none
-               (unless (sulgrevad-file-is-known (sulgrevad--file tag)) (sulgrevad--ask 'offer-version 0 0 sulgrevad-version-offered))
+               (unless (sulgrevad-file-is-known (sulgrevad--file tag)) (sulgrevad--ask 'offer-version))
                (when (sulgrevad--wait (lambda () (sulgrevad--is-named tag)))
                  (pop-to-buffer (sulgrevad--show tag))
                  (when (< 0 line)
@@ -288,26 +256,26 @@ Where that can't be now, it is tried again."
 (defun sulgrevad--revert (_ignore-auto noconfirm)
   "Read the buffer's file anew, after a question unless NOCONFIRM.
 The host reads it as another file, so undo has the text before."
-  (sulgrevad--settle "That")
+  (sulgrevad--settle)
   (when (or noconfirm
             (yes-or-no-p (format "Read %s anew at the host%s? " sulgrevad--path (if (buffer-modified-p) ", and drop its changes" ""))))
-    (let* ((answer (sulgrevad--question 'reload "" sulgrevad--tag)) (anew (sulgrevad-note-number answer)))
+    (let* ((client sulgrevad--client) (answer (sulgrevad--question 'reload "" sulgrevad--tag)) (anew (sulgrevad-note-number answer)))
       (unless (eq 'anew (sulgrevad-note-kind answer))
         (user-error "%s is not read anew: %s" sulgrevad--path (sulgrevad-note-text answer)))
       (sulgrevad--await-name anew)
       (unwind-protect (sulgrevad--take-anew anew)
-        (when sulgrevad--client (sulgrevad--ask 'close anew)))
+        (when (eq client sulgrevad--client) (sulgrevad--ask 'close anew))) ; in another session it is another file
       (message "%s is read anew; undo takes that back" (buffer-name)))))
 
 (defun sulgrevad--take-anew (anew)
   "Have the buffer be what the file ANEW is, and count as written."
   (sulgrevad--await-whole anew (buffer-name))
-  (sulgrevad--settle "That")
+  (sulgrevad--settle)
   (let ((text (sulgrevad--shown anew)) (tag sulgrevad--tag))
-    (let ((inhibit-read-only t)) (save-excursion (sulgrevad--become text)))
-    (sulgrevad--settle "That")          ; the edits go first
+    (let ((inhibit-read-only t)) (sulgrevad--become text))
+    (sulgrevad--settle)          ; the edits go first
     (unless (equal (sulgrevad--text) text) (user-error "%s is not read anew: another function has changed it" (buffer-name)))
-    (sulgrevad-client-reloaded sulgrevad--client tag anew (sulgrevad-line--now))
+    (sulgrevad-client-reloaded sulgrevad--client tag anew)
     (sulgrevad--ask 'write tag)
     (sulgrevad--set-mode sulgrevad--path)
     (sulgrevad--wait (lambda () (sulgrevad--is-answered tag)))))
@@ -334,14 +302,11 @@ The host reads it as another file, so undo has the text before."
 (defun sulgrevad--complete (string predicate action names-at)
   "Complete the path STRING, with PREDICATE and ACTION as for any table.
 NAMES-AT gives the names that complete a path, without their folder."
-  (let* ((path (sulgrevad--plain string))
-         (front (- (length string) (length path)))
-         (start (+ front (length (or (file-name-directory path) "")))))
+  (let* ((path (sulgrevad--plain string)) (name (file-name-nondirectory path)) (front (string-remove-suffix name string)))
     (pcase action
       ('metadata nil)
-      (`(boundaries . ,suffix) `(boundaries ,start . ,(or (string-search "/" suffix) (length suffix))))
-      (_ (let ((found (complete-with-action action (funcall names-at path) (substring string start) predicate)))
-           (if (stringp found) (concat (substring string 0 start) found) found))))))
+      (`(boundaries . ,suffix) `(boundaries ,(length front) . ,(or (string-search "/" suffix) (length suffix))))
+      (_ (completion-table-with-context front (funcall names-at path) name predicate action)))))
 
 (defun sulgrevad--names-at (path)
   "The names at the host that complete PATH; those of folders end in a slash."
@@ -354,12 +319,9 @@ NAMES-AT gives the names that complete a path, without their folder."
   "Run a command LINE of sam on the buffer and its region.
 Return what it prints, which the buffer *sam* has, too."
   (interactive "sCommand: ")
-  (sulgrevad--settle "A command line")
-  (let* ((tag sulgrevad--tag) (tick (buffer-chars-modified-tick)) (request (sulgrevad--run line)) (printed nil))
-    (unwind-protect
-        (when (sulgrevad--wait (lambda () (and (alist-get request sulgrevad--lines) (sulgrevad--is-answered tag))) t)
-          (setq printed (alist-get request sulgrevad--lines)))
-      (setq sulgrevad--lines (assq-delete-all request sulgrevad--lines)))
+  (sulgrevad--settle)
+  (let* ((tag sulgrevad--tag) (tick (buffer-chars-modified-tick))
+         (printed (sulgrevad--await-answer 'line (sulgrevad--run line) t tag)))
     (when (eq printed 'refused) (user-error "The command file has no room for the line"))
     (when printed (sulgrevad--show-answer line printed tag tick))
     (or printed "")))
@@ -383,9 +345,7 @@ Return the number of its request."
   (sulgrevad--ask 'select sulgrevad--tag
                   (1- (if (use-region-p) (region-beginning) (point))) (1- (if (use-region-p) (region-end) (point))))
   (let ((request (sulgrevad-client-run sulgrevad--client sulgrevad--tag line)))
-    (when (stringp request) (user-error "The line can't run: %s" request))
-    (push (list request) sulgrevad--lines)
-    request))
+    (if (stringp request) (user-error "The line can't run: %s" request) request)))
 
 ;;; Writing
 
@@ -395,8 +355,8 @@ Where it does not answer, the file is written once it does.  Ask first
 where that would replace what another program has written."
   (interactive)
   (unless (sulgrevad--is-ours) (user-error "The buffer is not that of a file of the session"))
-  (let ((tag sulgrevad--tag))
-    (when (sulgrevad--may-replace tag)
+  (let* ((tag sulgrevad--tag) (why (sulgrevad--replaced tag)))
+    (when (or (null why) (yes-or-no-p (format "%s: %s; replace it? " (buffer-name) why)))
       (setq sulgrevad--has-drifted t)   ; perhaps a change has left no sign
       (sulgrevad--pump)
       (unless (and (sulgrevad--is-ours) (not (sulgrevad--waits)))
@@ -414,12 +374,6 @@ nil where that is not known, or nobody is there who may be asked."
     (`(,note . ,name) (and (equal name (sulgrevad-client-name sulgrevad--client tag)) ; else it was told of another file
                            (cdr (assq (sulgrevad-note-code note) sulgrevad--replacing))))))
 
-(defun sulgrevad--may-replace (tag)
-  "Whether the file TAG may be written.
-It would replace no other program's text, or the user says so."
-  (let ((why (sulgrevad--replaced tag)))
-    (or (null why) (yes-or-no-p (format "%s: %s; replace it? " (buffer-name) why)))))
-
 (defun sulgrevad--write-contents ()
   "Have the host write the buffer, for `save-buffer'.
 What visits a file of this machine Emacs writes itself."
@@ -432,18 +386,18 @@ What visits a file of this machine Emacs writes itself."
   "Have the buffer leave the session once it visits a file of this machine.
 So it is after `write-file'.  The host keeps its file and the text."
   (when (and buffer-file-name (sulgrevad--is-ours))
-    (unless (sulgrevad--is-whole sulgrevad--tag) (sulgrevad--settle "That")) ; signs are no text
+    (unless (sulgrevad--is-whole sulgrevad--tag) (sulgrevad--settle)) ; signs are no text
     (setq sulgrevad--self nil)          ; it is Emacs that asks where it is killed
     (sulgrevad--let-go)
     (setq buffer-read-only nil)))
 
 (defun sulgrevad-write-file (path)
   "Have the host write the buffer to PATH, which becomes the file's name."
-  (interactive (progn (sulgrevad--settle "That")
+  (interactive (progn (sulgrevad--settle)
                       (list (sulgrevad--read-path "Write file at the host: "))))
   (let* ((plain (sulgrevad--plain path))
          (path (if (string-suffix-p "/" plain) (concat plain (sulgrevad--base sulgrevad--path)) plain))
-         (printed (if (or (string-empty-p path) (string-search "\n" path)) "the name is wrong"
+         (printed (if (string-match-p "\\`\\'\\|\n\\|\\`[ \t]\\|[ \t]\\'" path) "the name is wrong" ; the host drops blanks at its ends
                     (save-mark-and-excursion (sulgrevad-command (concat "f " path))))))
     (unless (equal (sulgrevad-client-name sulgrevad--client sulgrevad--tag) path)
       (user-error "The file can't be called %s: %s" path (string-trim printed)))

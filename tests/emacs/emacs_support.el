@@ -22,11 +22,16 @@
 
 (defun is-sent ()
   "Whether the host has all."
-  (sulgrevad-line-has-all sulgrevad--line))
+  (sulgrevad-state-has-all (sulgrevad--state)))
+
+(defun is-broken ()
+  "Whether the line is lost."
+  (sulgrevad-state-is-broken (sulgrevad--state)))
 
 (defun keys (text)
-  "Press keys, with the hooks that a command has."
-  (execute-kbd-macro (kbd text)))
+  "Press keys, with the hooks that a command has.  Then no command is under way."
+  (execute-kbd-macro (kbd text))
+  (setq this-command nil))
 
 (defun disk (file)
   (with-temp-buffer (let ((coding-system-for-read 'utf-8-unix)) (insert-file-contents file)) (buffer-string)))
@@ -97,7 +102,7 @@
   "Skip the pause of a line that waits for its next connection."
   (let ((line sulgrevad--line))
     (when (and skips-pauses line (null (sulgrevad-line-why line)) (null (sulgrevad-line-process line)))
-      (skip (or (sulgrevad-client-due-in (sulgrevad-line-client line) (sulgrevad-line--now)) 0)))))
+      (skip (or (sulgrevad-client-due-in (sulgrevad-line-client line)) 0)))))
 
 (defun process ()
   "The process that carries the session's bytes."
@@ -141,7 +146,7 @@
   "Have the line break; with STAYS none comes after it."
   (when stays (made "down" ""))
   (wait-for (lambda () (signal-line 'KILL)))
-  (wait-for (lambda () (sulgrevad-line-is-broken sulgrevad--line))))
+  (wait-for #'is-broken))
 
 (defun mend-line ()
   "Have a line come again, and wait for it."

@@ -18,11 +18,10 @@ command("SulgrevadRun", "run", function(options) return options end, { nargs = 1
 command("SulgrevadReconnect", "reconnect", function() end, {})
 
 local group = vim.api.nvim_create_augroup("sulgrevad", {})
-local methods = { BufReadCmd = "read", BufWriteCmd = "write", BufFilePre = "rename", BufUnload = "unload" }
-methods.BufDelete, methods.BufWipeout = "delete", "delete"
-for name, method in pairs(methods) do
+local closes = { "BufDelete", "BufWipeout" }
+for method, names in pairs { read = "BufReadCmd", write = "BufWriteCmd", rename = "BufFilePre", unload = "BufUnload", delete = closes } do
   local callback = calls(method, function(event) return event.buf, event.match end)
-  vim.api.nvim_create_autocmd(name, { group = group, pattern = "sulgrevad://*", callback = callback })
+  vim.api.nvim_create_autocmd(names, { group = group, pattern = "sulgrevad://*", callback = callback })
 end
 vim.api.nvim_create_autocmd("VimLeavePre", { group = group, callback = function()
   if package.loaded.sulgrevad then require("sulgrevad").leave() end

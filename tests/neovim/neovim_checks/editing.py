@@ -1,5 +1,6 @@
 """Files that open, edits of all sorts, and writes: beside a plain Neovim that gets the same keys."""
 import random
+import time
 from pathlib import Path
 
 from checks import expect, expect_equal
@@ -75,7 +76,8 @@ def check_random(folder):
 
 
 def check_exact(folder):
-    """Texts of all forms are written as they are, and :w adds a last newline only where 'fixendofline' says so."""
+    """Texts of all forms are written as they are, and :w adds a last newline only where 'fixendofline' says so. There is no
+    other 'fileformat' than unix."""
     texts = ["", "\n", "\n\n", "one", "one\n", "one\n\n", "one\r\ntwo\r\n", "\r", "\ufeffone\n", "é日😀e\u0301", "\u2028\u0085\n", "\t\n x"]
     with Place(folder) as place:
         neovim = place.neovim()
@@ -94,6 +96,8 @@ def check_exact(folder):
         neovim.command("set fixendofline")
         neovim.keys("ix<Esc>")
         expect_equal(place.expect_same(neovim, "text 3"), "xone\n")
+        neovim.command("set fileformat=dos | silent! write")
+        expect("not written" in neovim.lua("return vim.v.errmsg"), "a text is written with other ends of lines than the user wants")
 
 
 def check_emptied(folder):
@@ -180,6 +184,17 @@ def check_too_long(folder):
         expect_equal(place.expect_same(neovim, "notes.txt"), "one\n")
 
 
+def check_replaced(folder):
+    """A long text that takes the place of another goes to the host, though both together are too long."""
+    with Place(folder, 40) as place:
+        neovim = place.opened("notes.txt", "old words\n" * 60000)
+        for change in ("vim.fn['repeat']({'the new words'}, 45000)", "vim.fn['repeat']({'short'}, 150000)"):
+            neovim.lua(f"vim.api.nvim_buf_set_lines(0, 0, -1, true, {change})")
+            neovim.wait_settled()
+            expect("is not at the host" not in neovim.told, neovim.told)
+        expect(place.expect_same(neovim, "notes.txt") == "short\n" * 150000, "the text is another")
+
+
 def check_many(folder):
     """Very many changes of a long text go to the host, also while it is busy with the file."""
     text = "".join(f"ink {number} and some words that make the line longer\n" for number in range(12000))
@@ -192,6 +207,26 @@ def check_many(folder):
         neovim.wait_settled()
         expect("is not at the host" not in neovim.told, neovim.told)
         expect(place.expect_same(neovim, "notes.txt") == text.replace("ink", "pen"), "the second change is another")
+
+
+MOST_TIMES_PLAIN = 10  # as long as in a plain Neovim
+
+
+def check_global(folder):
+    """A :g over very many lines takes hardly longer than in a plain Neovim, and what it leaves, as what u brings back, is at the host."""
+    text, seconds = "x\n" * 100_000, []
+    with Place(folder) as place:
+        (folder / "plain.txt").write_text(text)
+        plain = place.neovim(str(folder / "plain.txt"), has_plugin=False)
+        neovim = place.opened("notes.txt", text)
+        for one in (plain, neovim):
+            start = time.monotonic()
+            one.command("silent g/x/d")
+            seconds.append(time.monotonic() - start)
+        expect(seconds[1] < MOST_TIMES_PLAIN * seconds[0] + 1, f"seconds in a plain Neovim, and here: {seconds}")
+        expect_equal(place.expect_same(neovim, "notes.txt"), "")
+        neovim.keys("u")
+        expect(place.expect_same(neovim, "notes.txt") == text, "the text is another")
 
 
 # Has a command line of the session change the text of the current buffer, which the host has otherwise.

@@ -4,7 +4,7 @@ import shutil
 import time
 from pathlib import Path
 
-from checks import expect, expect_equal, wait_until
+from checks import ROOT, expect, expect_equal, wait_until
 
 from .support import PLUGIN, TERMINAL, Place
 
@@ -114,6 +114,22 @@ def check_own_name(folder):
         expect_equal([path.name for path in place.host.folder.iterdir()], ["notes.txt"])
 
 
+def check_new_name(folder):
+    """After the command line `f NAME` the buffer has that name, :w writes there alone, and says so; the old name is another file's."""
+    with Place(folder) as place:
+        neovim = place.changed()
+        neovim.command("SulgrevadRun f other.txt")
+        neovim.wait("vim.api.nvim_buf_get_name(0):match '[^/]*$'", "other.txt")
+        place.expect_same(neovim, "other.txt")
+        neovim.wait_told("other.txt is written")
+        expect_equal((place.host.read("notes.txt"), place.host.read("other.txt")), ("one\n", "onex\n"))
+        place.open(neovim, "notes.txt")
+        expect_equal(neovim.text, "one\n")
+        neovim.keys("Ay<Esc>")
+        place.expect_same(neovim, "notes.txt")
+        expect_equal((place.host.read("notes.txt"), place.host.read("other.txt")), ("oney\n", "onex\n"))
+
+
 def check_end_in_write(folder):
     """Where an error ends the session within a write, :w says so, the buffer stays modified, and :w NAME writes its text here."""
     with Place(folder) as place:
@@ -215,6 +231,49 @@ def check_replacing_by_habit(folder):
         expect_equal((place.host.read("notes.txt"), neovim.lua("return vim.bo.modified")), ("last\nonexx\n", False))
 
 
+def check_replacing_unheard(folder):
+    """No write replaces another program's text before the user hears of it: none of Insert mode, and none that is typed while :wq waits."""
+    with Place(folder, 100) as place:
+        neovim = place.changed()
+        neovim.command("inoremap <F2> <Cmd>silent! write<CR>")
+        neovim.wait_settled()
+        place.host.write("notes.txt", "other text\n")
+        for keys in ("A<F2>", "y<F2>"):
+            neovim.keys(keys)
+            neovim.wait(ANSWERED, True)
+            neovim.wait_settled()
+            expect_equal((keys, place.host.read("notes.txt")), (keys, "other text\n"))
+        expect("the next write replaces it" in neovim.lua("return vim.v.errmsg"), neovim.told)
+        neovim.keys("<F2><Esc>")
+        place.host.wait_written("notes.txt", "onexy\n")
+        neovim.wait_settled()
+        place.host.write("notes.txt", "more of another\n")
+        neovim.ask("nvim_input", "Az<Esc>:wq<CR>:w<CR>:w<CR>:let g:is_done = 1<CR>")
+        neovim.wait("vim.g.is_done", 1)
+        neovim.wait_settled()
+        expect_equal((place.host.read("notes.txt"), neovim.lua("return vim.bo.modified")), ("more of another\n", True))
+        expect_equal(place.expect_same(neovim, "notes.txt"), "onexyz\n")
+
+
+def check_replacing_by_unloading(folder):
+    """A second :w that waits for the answer to the first replaces no text of another program when the buffer is read anew or closed."""
+    with Place(folder, 100) as place:
+        neovim = place.opened("notes.txt", "one\n")
+        place.host.write("notes.txt", "other text\n")
+        neovim.keys("Ax<Esc>:w\n:w\n")
+        neovim.wait(ANSWERED, True)
+        neovim.command("edit!")
+        neovim.wait_settled()
+        expect_equal((place.host.read("notes.txt"), neovim.text), ("other text\n", "other text\n"))
+        place.host.write("notes.txt", "more of another\n")
+        neovim.keys("Ay<Esc>:w\n:w\n:bd\n")
+        neovim.wait("next(select(2, next(require('sulgrevad').sessions)).files) == nil", True)
+        expect_equal((place.host.read("notes.txt"), place.host.read("notes.txt.sam-saved")), ("more of another\n", "other texty\n"))
+        place.open(neovim, "notes.txt")
+        neovim.lua("vim.cmd 'silent write'; vim.api.nvim_buf_set_lines(0, 0, 0, true, { 'last' }); vim.cmd 'silent write | bdelete'")
+        place.host.wait_written("notes.txt", "last\nmore of another\n")
+
+
 def check_replacing_at_end(folder):
     """Where :wq replaces another program's text, it is told where that is now."""
     with Place(folder) as place:
@@ -254,9 +313,12 @@ def check_leave_all(folder):
         place.open(neovim, "other.txt")
         neovim.keys("Ay<Esc>")
         shutil.rmtree(place.host.folder / "gone")
+        neovim.command("let v:errmsg = ''")
         neovim.keys(":wqa\n")
         place.host.wait_written("other.txt", "othery\n")
         neovim.wait_told("gone/notes.txt is not written")
+        neovim.wait("vim.v.errmsg ~= ''")  # an error drops keys that came before it
+        neovim.wait_told("not written: gone/notes.txt")  # none is made before the user has heard that
         (place.host.folder / "gone").mkdir()
         neovim.ask("nvim_input", ":wqa<CR>")
         wait_until(lambda: neovim.process.poll() is not None, "Neovim does not end")
@@ -364,6 +426,21 @@ def check_takeover_back(folder):
         expect_equal((first.text, first.lua(f"vim.cmd('buffer ' .. {old!r}) return vim.api.nvim_get_current_line()")), ("other\n", "onex"))
 
 
+def check_takeover_late(folder):
+    """The files of a session that is taken over come also where the wait for them ends before, as by CTRL-C, or since the host is late."""
+    with Place(folder, 1000) as place:
+        first = place.changed()
+        first.wait_settled()
+        second = place.neovim()
+        second.ask("nvim_input", f":Sulgrevad {place.host.command} --take<CR>")
+        second.wait("next(require('sulgrevad').sessions) ~= nil")
+        second.ask("nvim_input", "<C-c>")
+        time.sleep(1)  # until it has ended the wait, and no call
+        second.wait_told("the session's files come once the host answers")
+        second.wait("vim.bo.modified and vim.api.nvim_get_current_line()", "onex")
+        expect("no file is open" not in second.told, second.told)
+
+
 def check_takeover_of_nothing(folder):
     """Where no file is open in a session that is taken over, the user hears so at once."""
     with Place(folder) as place:
@@ -387,6 +464,11 @@ def check_health(folder):
         other = place.neovim("--cmd", "let g:sulgrevad_library = '/none.so'")
         other.command("checkhealth sulgrevad")
         expect("ERROR: the library is not there" in other.text, other.text)
+        header = (ROOT / "include/sulgrevad.h").read_text()
+        (folder / "other.h").write_text(header.replace("SAM_VERSION_MAJOR ", "SAM_VERSION_MAJOR 9"))
+        other = place.neovim("--cmd", f"let g:sulgrevad_header = '{folder}/other.h'")
+        other.command(f"silent! Sulgrevad {place.host.command} notes.txt")
+        expect("is of another version than" in other.lua("return vim.v.errmsg"), other.told)
 
 
 def check_help(folder):

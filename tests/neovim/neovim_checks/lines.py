@@ -5,9 +5,9 @@ import shutil
 import signal
 import time
 
-from checks import GIVEN_UP, expect, expect_equal, wait_until
+from checks import GIVEN_UP, SAMHOST, expect, expect_equal, wait_until
 
-from .support import Place
+from .support import Neovim, Place
 
 
 def check_run(folder):
@@ -113,11 +113,20 @@ AMID = (
     ("#0a/x\\ny /", "gg0wve", "d", "x\ny one \nthree\nfour\nfive\n"),
     ("0a/new\\n/", "3G0v$<C-g>", "X<Esc>", "new\none two\nthree\nXfive\n"),
     ("0a/new\\n/", "2G<F2>", "x", "new\none two\nhree\nfour\nfive\n"),  # a key for which a mapping waits
+    ("0a/new\\n/", "2Gd/fou", "r<CR>", "new\none two\nfour\nfive\n"),
+    ("0a/new\\n/", "2Gi<C-r>=", "1<CR><Esc>", "new\none two\n1three\nfour\nfive\n"),
+    ("0a/new\\n/", "2G<C-v>jIQ", "R<Esc>", "new\none two\nQRthree\nQRfour\nfive\n"),
+    ("2i/XX/", "2GA t<C-n>", "<C-n><Esc>", "one two\nXXthree three\nfour\nfive\n"),
+    ("1a/new\\n/", "1GA x", "y<Esc>", "one two xy\nnew\nthree\nfour\nfive\n"),
+    (",x/\\n/a/new\\n/", "4GA x", "y<Esc>", "one two\nnew\nthree\nnew\nfour\nnew\nfive xy\nnew\n"),
+    ("0a/new\\n/", "1GVj<Esc>", ":'<lt>,'>d<CR>", "new\nfour\nfive\n"),
+    ("0a/new\\n/", "1G0<C-v>j$", "A!<Esc>", "new\none two!\nthree!\nfour\nfive\n"),
 )
 
 
 def check_amid(folder):
-    """An operator, and a selection, is of the text of which the user began it, if the host changes the text before the next key comes."""
+    """An operator, and a selection, is of the text of which the user began it, if the host changes the text before the next key comes. What
+    is typed into a block, from a command line or a completion, or at the end of a line, goes to its place."""
     with Place(folder, 150) as place:
         neovim = place.opened("notes.txt", "")
         neovim.command("nnoremap <expr> <F2> nr2char(getchar())")
@@ -132,8 +141,22 @@ def check_amid(folder):
             expect_equal((first, place.expect_same(neovim, "notes.txt")), (first, wanted))
 
 
+def check_amid_pattern(folder):
+    """A :s acts on the line on which it was begun, if the host puts one in before that while its pattern is typed."""
+    with Place(folder, 150) as place:
+        neovim = place.opened("notes.txt", "one two\nthree\nfour\n")
+        neovim.command("SulgrevadRun 0a/new\\n/")
+        neovim.ask("nvim_input", "2G:s/t")
+        time.sleep(1)  # in which the host's answer comes
+        for key in ("h", "/T/<CR>"):
+            neovim.keys(key)
+        neovim.wait_settled()
+        expect_equal(place.expect_same(neovim, "notes.txt"), "new\none two\nTree\nfour\n")
+
+
 def check_message(folder):
-    """Words that come in Insert mode take no key of the user's, though they fill the screen, and are shown once that mode is over."""
+    """Words that come in Insert mode, or amid an operator, take no key of the user's, though they fill the screen, and are shown once
+    that is over."""
     with Place(folder) as place:
         neovim = place.opened("notes.txt", "one\n")
         neovim.ask("nvim_ui_attach", 80, 10, {})
@@ -145,6 +168,31 @@ def check_message(folder):
         wait_until(lambda: neovim.ask("nvim_get_mode")["mode"] == "r", "the words are not shown")
         neovim.ask("nvim_input", "<CR>")
         neovim.wait_told("word word")
+        neovim.ask("nvim_input", "0d")
+        neovim.lua("require('sulgrevad.session').say(('more '):rep(50))")
+        neovim.ask("nvim_input", " ")
+        neovim.wait("vim.api.nvim_get_current_line()", "ne two")
+
+
+# Presses CTRL-C just before the session of the current buffer goes on, or at the next change of its text.
+PRESS = """
+vim.api.nvim_input "<C-c>"
+require("sulgrevad").files[vim.api.nvim_get_current_buf()].session:go_on()
+"""
+PRESS_AT_CHANGE = "vim.api.nvim_buf_attach(0, false, { on_lines = function() vim.api.nvim_input '<C-c>' return true end })"
+
+
+def check_interrupt(folder):
+    """A CTRL-C ends no session, and what the host changes then comes into the buffer as a whole, as one step of undo."""
+    with Place(folder) as place:
+        neovim = place.opened("notes.txt", "ink\n" * 3)
+        neovim.lua(PRESS)
+        neovim.lua(PRESS_AT_CHANGE)
+        neovim.command("SulgrevadRun ,x/ink/c/pen/")
+        neovim.wait_settled()
+        expect_equal(place.expect_same(neovim, "notes.txt"), "pen\n" * 3)
+        neovim.keys("u")
+        expect_equal(place.expect_same(neovim, "notes.txt"), "ink\n" * 3)
 
 
 def check_insertion(folder):
@@ -302,6 +350,22 @@ def check_silent(folder):
         expect(place.line(neovim) != process, "the line is the same")
 
 
+def check_reload_late(folder):
+    """What is typed while :e! waits for a silent host stays, also behind a second one, and the user is told."""
+    with Place(folder, 10) as place:
+        neovim = place.opened("notes.txt", "one\n")
+        process = place.line(neovim)
+        os.kill(process, signal.SIGSTOP)
+        for told in ("notes.txt comes once the host answers", "the file is not read anew: no answer for"):
+            neovim.command("edit!")
+            neovim.wait_told(told)
+        neovim.keys("Ax<Esc>")
+        os.kill(process, signal.SIGCONT)
+        neovim.wait_told("notes.txt is not read anew: it has changed here meanwhile")
+        neovim.wait_settled()
+        expect_equal(place.expect_same(neovim, "notes.txt"), "onex\n")
+
+
 def check_no_folder(folder):
     """A line comes back also if the folder is gone in which the session began."""
     with Place(folder, 10) as place:
@@ -327,21 +391,49 @@ def check_write_refused(folder):
         expect_equal(neovim.lua("return vim.bo.modified"), True)
 
 
+SECONDS_UNKEPT = 10  # of what is typed while the line is lost
+
+
 def check_copies(folder):
-    """While the line is lost a changed text is kept here, also if Neovim is killed; once the host has all the copy goes."""
+    """While the line is lost a changed text is soon kept here, also if Neovim is killed; once the host has all the copy goes. It comes
+    again where an error ends the session."""
     with Place(folder, 10) as place:
         neovim = place.opened("notes.txt", "one\n")
         copy = neovim.folder / "notes.txt.sam-here"
         place.host.dead.touch()
         place.cut(neovim)
         neovim.keys("Ax<Esc>")
-        wait_until(copy.exists, "there is no copy")
+        wait_until(copy.exists, "there is no copy", SECONDS_UNKEPT)
         neovim.keys("Ay<Esc>")
-        wait_until(lambda: copy.read_text() == "onexy\n", lambda: f"the copy has {copy.read_text()!r}")
+        wait_until(lambda: copy.read_text() == "onexy\n", lambda: f"the copy has {copy.read_text()!r}", SECONDS_UNKEPT)
         place.host.dead.unlink()
         neovim.command("SulgrevadReconnect")
         neovim.wait_settled()
         wait_until(lambda: not [*neovim.folder.glob("*.sam-here*")], "the copy stays")
+        neovim.command("SulgrevadRun ,p")
+        neovim.lua(END)
+        expect_equal(copy.read_text(), "onexy\n")
+
+
+# Has an error end the session of the current buffer.
+END = "require('sulgrevad').files[vim.api.nvim_get_current_buf()].session:end_here 'no memory'"
+
+
+def check_copies_of_killed(folder):
+    """Where Neovim was killed while the line was lost, the next one that shows the file says where its text is kept, and no other's."""
+    with Place(folder, 10) as place:
+        neovim = lost_and_edited(place)
+        copy = neovim.folder / "notes.txt.sam-here"
+        wait_until(copy.exists, "there is no copy", SECONDS_UNKEPT)
+        neovim.close()
+        place.host.dead.unlink()
+        for name in ("notes.txt.sam-here.txt", "other.txt.sam-here"):
+            (neovim.folder / name).write_text("other\n")
+        second = Neovim(neovim.folder)
+        place.neovims.append(second)
+        second.ask("nvim_command", f"Sulgrevad {place.host.command} notes.txt")
+        second.wait_told(f"a text of notes.txt was kept here: {copy}, of 2")
+        expect_equal((second.told.count("kept here"), copy.read_text()), (1, "onex\n"))
 
 
 def check_copies_of_refused(folder):
@@ -363,14 +455,26 @@ def check_copies_of_refused(folder):
         expect_equal(len(copy.read_text()), 1_000_005)
 
 
+def check_copies_of_refused_unloaded(folder):
+    """A text that is too long for the host stays here where :e! shows the host's in its place, though the host has all then."""
+    with Place(folder) as place:
+        neovim = place.opened("notes.txt", "one\n")
+        neovim.lua("vim.api.nvim_buf_set_lines(0, 0, 0, true, {('x'):rep(1000000)})")
+        neovim.wait_told("is not at the host as it is here")
+        neovim.keys(":edit!\n")
+        neovim.wait("vim.api.nvim_get_current_line()", "one")
+        copy = neovim.folder / "notes.txt.sam-here"
+        neovim.wait_told(f"the text of notes.txt is in {copy}")
+        time.sleep(1)  # two ticks of the clock
+        expect_equal(len(copy.read_text()), 1_000_005)
+
+
 def check_copies_of_closed(folder):
     """What is closed or unloaded while the line is lost, and isn't at the host, is kept here until it is, also when Neovim ends."""
     with Place(folder, 10) as place:
         neovim = lost_and_edited(place)
         copy = neovim.folder / "notes.txt.sam-here"
-        neovim.command("set nohidden | split | write | quit")
-        expect(not copy.exists(), "there is a copy of a text that a window shows")
-        neovim.command("write | enew")
+        neovim.command("set nohidden | write | enew")
         expect_equal(copy.read_text(), "onex\n")
         neovim.command("buffer notes.txt")
         neovim.keys("Ay<Esc>")
@@ -396,7 +500,7 @@ def check_copies_of_ended(folder):
     """What the host may not have once a session is over is kept here at once, and what is typed then a little later."""
     with Place(folder, 10) as place:
         neovim = lost_and_edited(place)
-        neovim.lua("require('sulgrevad').files[vim.api.nvim_get_current_buf()].session.line:lose 'no memory'")
+        neovim.lua(END)
         copy = neovim.folder / "notes.txt.sam-here"
         expect_equal(copy.read_text(), "onex\n")
         neovim.wait_told(f"the text of notes.txt is in {copy}")
@@ -406,6 +510,88 @@ def check_copies_of_ended(folder):
         neovim.ask("nvim_input", ":qa!<CR>")
         wait_until(lambda: neovim.process.poll() is not None, "Neovim does not end")
         expect_equal(([*neovim.folder.glob("*.sam-here*")], copy.read_text()), ([copy], "onexyz\n"))
+
+
+def check_copies_of_failed(folder):
+    """Where a host ends badly, what it had and has not written is kept here at once; a text that it has written is not."""
+    with Place(folder, 10) as place:
+        neovim = place.changed()
+        place.expect_same(neovim, "notes.txt")
+        place.host.write("other.txt", "")
+        place.open(neovim, "other.txt")
+        neovim.keys("iy<Esc>")
+        neovim.wait_settled()
+        neovim.lua(END_BADLY)
+        expect_equal([(path.name, path.read_text()) for path in neovim.folder.glob("*.sam-here*")], [("other.txt.sam-here", "y\n")])
+        expect_equal(neovim.lua("return {vim.bo.modified, vim.bo[vim.fn.bufnr 'notes.txt'].modified}"), [True, False])
+
+
+# Has the host of the current buffer say that the session is over, with the status 1.
+END_BADLY = """
+local note = { kind = require("sulgrevad.library").C.SAM_NOTE_ENDED, number = 1 }
+require("sulgrevad").files[vim.api.nvim_get_current_buf()].session:meet(note)
+"""
+
+
+# Has the plugin's clock go on by a part of a second. Whether the session of the current buffer is over.
+LATER = """
+(function()
+  if not ahead then
+    local now = vim.loop.hrtime
+    ahead, vim.loop.hrtime = 0, function() return now() + ahead end
+  end
+  ahead = ahead + 2e8
+  return require("sulgrevad").files[vim.api.nvim_get_current_buf()].session.over ~= nil
+end)()
+"""
+
+
+def expect_kept(neovim, told):
+    """The session of a Neovim ends because the host says something again and again; what was not written is kept here, and told."""
+    neovim.wait_told(told)
+    neovim.wait(LATER)
+    copy = neovim.folder / "notes.txt.sam-here"
+    neovim.wait_told(f"the text of notes.txt is in {copy}")
+    expect_equal((copy.read_text(), neovim.lua("return vim.bo.modified")), ("onex\n", True))
+    neovim.keys("Ay<Esc>")
+    wait_until(lambda: copy.read_text() == "onexy\n", lambda: f"the copy has {copy.read_text()!r}")
+
+
+def check_session_gone(folder):
+    """Where the host finds the session no more, it is over here, and what was not written is kept."""
+    with Place(folder) as place:
+        neovim = place.changed()
+        neovim.wait_settled()
+        shutil.rmtree(place.host.state)
+        place.host.kill()
+        expect_kept(neovim, "no session is found")
+
+
+def check_folder_gone(folder):
+    """Where the folder is gone in which the session began at the host, what was not written is kept here at once. The session is over here
+    soon; it can be taken up once the folder is back."""
+    with Place(folder) as place:
+        neovim = place.changed()
+        neovim.wait_settled()
+        (place.host.bin / "samhost").write_text(f"#!/bin/sh\nexec '{SAMHOST}' \"$@\"\n")
+        place.host.folder.rename(folder / "away")
+        place.host.kill()
+        wait_until((neovim.folder / "notes.txt.sam-here").exists, "there is no copy")
+        expect_kept(neovim, "can't go on")
+        (folder / "away").rename(place.host.folder)
+        neovim.command(f"Sulgrevad {place.host.command} --take")
+        neovim.wait("vim.bo.modifiable and vim.api.nvim_get_current_line()", "onex")
+
+
+def check_copies_behind_q(folder):
+    """What is typed while a command line ends the session is kept here."""
+    with Place(folder, 150) as place:
+        neovim = place.changed()
+        neovim.wait_settled()
+        neovim.command("SulgrevadRun q")
+        neovim.keys("Ay<Esc>")
+        neovim.wait_told("the session is over")
+        expect_equal(((neovim.folder / "notes.txt.sam-here").read_text(), neovim.lua("return vim.bo.modified")), ("onexy\n", True))
 
 
 def check_left(folder):
@@ -421,6 +607,19 @@ def check_left(folder):
         second.command(f"Sulgrevad {place.host.command} --take")
         second.wait("vim.bo.modifiable and vim.bo.buftype == 'acwrite'")
         expect_equal(second.text, "one\n")
+
+
+def check_left_silent(folder):
+    """Where the host has all, and says nothing as Neovim leaves, the user hears that the session may stay there."""
+    with Place(folder, 10) as place:
+        neovim = place.changed()
+        neovim.wait_settled()
+        process = place.line(neovim)
+        os.kill(process, signal.SIGSTOP)
+        neovim.ask("nvim_input", ":qa!<CR>")
+        wait_until(lambda: neovim.process.poll() is not None, "Neovim does not end")
+        os.kill(process, signal.SIGKILL)
+        expect("the session may stay there" in (neovim.folder / "errors").read_text(), "nothing is told")
 
 
 def check_signal(folder):
@@ -458,3 +657,13 @@ def check_shown(folder):
         expect_equal(neovim.text, "here\n")
         neovim.command("buffer! other.txt | bdelete")
         expect_equal(waiting.wait(GIVEN_UP), 0)
+
+
+def check_shown_unloaded(folder):
+    """A file whose buffer was unloaded is shown for another program at once."""
+    with Place(folder) as place:
+        neovim = place.opened("notes.txt", "one\n")
+        neovim.command("enew | set hidden | bunload notes.txt")
+        place.host.opening("notes.txt")  # which ends with the session
+        neovim.wait("vim.api.nvim_buf_get_name(0):find('notes.txt') ~= nil and vim.api.nvim_get_current_line()", "one")
+        expect("once the host answers" not in neovim.told, neovim.told)

@@ -29,7 +29,7 @@ class Neovim:
             command, stdin=subprocess.PIPE, stdout=subprocess.PIPE, stderr=open(folder / "errors", "wb"), cwd=folder, env=setting
         )
         self.reader, self.requests, self.folder = Reader(self._read), 0, folder
-        self.limit = threading.Timer(GIVEN_UP, self.process.kill)  # one that hangs is ended, and its check fails
+        self.limit = threading.Timer(4 * GIVEN_UP, self.process.kill)  # one that hangs is ended, and its check fails
         self.limit.daemon = True
         self.limit.start()
 

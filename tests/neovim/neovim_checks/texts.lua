@@ -63,6 +63,7 @@ local buf = vim.api.nvim_create_buf(true, false)
 local file = files.new(session, "a path", buf)
 for _ = 1, 1000 do
   local shown = random_text(math.random() < 0.3 and 2 or 20)
+  if math.random() < 0.2 then vim.bo[buf].endofline = false end -- also behind an empty line
   file:become(shown)
   expect(file:text() == shown, "become", shown, file:text())
 end

@@ -7,6 +7,7 @@
 local api = vim.api
 local library = require "sulgrevad.library"
 local text = require "sulgrevad.text"
+local C = library.C
 
 local M, File = {}, {}
 File.__index = File
@@ -17,8 +18,26 @@ local space = api.nvim_create_namespace "sulgrevad"
 
 -- A file at a path of a session's host, which is to be shown in a buffer. That can't be edited until the text is there.
 function M.new(session, path, buf)
-  vim.bo[buf].modifiable = false
+  local options = vim.bo[buf]
+  if options.fileformat ~= "unix" then options.fileformat = "unix" end -- a carriage return is a character of the text
+  options.buftype, options.swapfile, options.modifiable = "acwrite", false, false -- the host has the text, or a copy that is kept here
   return setmetatable({ session = session, path = path, buf = buf, name = api.nvim_buf_get_name(buf), holes = {} }, File)
+end
+
+-- Calls `act`, and again where a CTRL-C breaks it off: by that the next function of Neovim fails, whichever it is. Returns whether it is
+-- right, and else why not.
+function M.whole(act)
+  local is_right, why
+  repeat
+    is_right, why = xpcall(act, function(why) return tostring(why) .. (vim.o.verbose > 0 and debug.traceback() or "") end)
+  until is_right or not why:find "Keyboard interrupt"
+  return is_right, why
+end
+
+-- Gives the file another path, and its buffer the name of that, if no other buffer has it.
+function File:rename(path)
+  self.path, self.name = path, ("sulgrevad://%s/%s"):format(self.session.label, path)
+  if not pcall(api.nvim_buf_set_name, self.buf, self.name) then self.name = api.nvim_buf_get_name(self.buf) end
 end
 
 --## The two texts
@@ -42,19 +61,14 @@ end
 
 -- The number of bytes before a row, or behind the last one of all. Neovim may not know it (-1).
 function File:offset(row)
-  local count = api.nvim_buf_line_count(self.buf)
-  if self:is_empty() then return 0 end
-  if row == count then return self:offset(row - 1) + #self:line(row - 1) + (vim.bo[self.buf].endofline and 1 or 0) end
-  return row > 0 and api.nvim_buf_get_offset(self.buf, row) or 0
+  if row < api.nvim_buf_line_count(self.buf) then return row > 0 and api.nvim_buf_get_offset(self.buf, row) or 0 end
+  return self:is_empty() and 0 or self:offset(row - 1) + #self:line(row - 1) + (vim.bo[self.buf].endofline and 1 or 0)
 end
 
 -- The row of a byte of the text, and the column, which behind the last newline is one more than the row has.
 function File:spot(at)
-  local row, behind = 0, api.nvim_buf_line_count(self.buf)
-  while behind - row > 1 do
-    local middle = math.floor((row + behind) / 2)
-    if self:offset(middle) > at then behind = middle else row = middle end
-  end
+  local line = api.nvim_buf_call(self.buf, function() return vim.fn.byte2line(at + 1) end) -- -1 behind the text
+  local row = (line > 0 and line or api.nvim_buf_line_count(self.buf)) - 1
   return row, at - self:offset(row)
 end
 
@@ -87,7 +101,7 @@ function File:agree() self.tick, self.noted, self.is_exact = api.nvim_buf_get_ch
 
 function File:is_free() return self.session:file_state(self.tag).is_free end
 
--- Whether the user may have changed the buffer since both texts were the same. A signal takes its text away before Neovim says that it ends.
+-- Whether the user may have changed the buffer since both texts were the same. A signal takes its text away before Neovim tells of its end.
 function File:is_touched()
   if not self.is_filled or self.is_changing or not api.nvim_buf_is_loaded(self.buf) then return false end
   return self.tick ~= api.nvim_buf_get_changedtick(self.buf)
@@ -115,35 +129,39 @@ function File:replace(at, old, new)
 end
 
 -- Tells the client at once that some lines gave way to those from `first` up to `last`, where the event fits the texts: so several edits of
--- a moment stay apart. What is left out, and what the length of the text shows to be missing, is told by `tell`.
+-- a moment stay apart. Returns whether it does. What is left out, and what the length of the text shows to be missing, is told by `tell`.
 function File:note(first, last)
   self.noted = self.noted + 1
+  if self.noted > MOST_NOTED or self.refusal or self.session.is_going or self.session.over then return false end
   local count, before = api.nvim_buf_line_count(self.buf), first > 0 and "\n" or ""
   local from, rest = self:offset(first) - #before, self:offset(count) - self:offset(last)
   local old, new = self.same:sub(from + 1, #self.same - rest), before .. self:text(first, last)
   local fits = from >= 0 and rest >= 0 and from + rest <= #self.same and old:sub(1, #before) == before
   fits = fits and (rest == 0 or old:sub(-1) == "\n" or from == 0 and old == "")
-  if not fits or self.noted > MOST_NOTED or self.refusal or self.session.is_going or self.session.over or self:replace(from, old, new) then
-    self.is_exact = false
-  elseif self.is_exact and #self.same == self:offset(count) then
-    self.tick = api.nvim_buf_get_changedtick(self.buf)
-  end
+  if not fits or self:replace(from, old, new) then return false end
+  if self.is_exact and #self.same == self:offset(count) then self.tick = api.nvim_buf_get_changedtick(self.buf) end
+  return true
 end
 
--- Tells the client what the user changed. `refusal` says why it does not take that, and the buffer keeps its text.
+-- Tells the client what the user changed. `refusal` says why it does not take that, and the buffer keeps its text. What goes counts until
+-- that has acted, as does what waits: so where a text alone has room, all of the one before goes first.
 function File:tell()
   local new = self:text()
   local status = self.is_apart and APART or self:replace(0, self.same, new)
-  if status == library.C.SAM_NOT_TEXT then
+  if status == C.SAM_NOT_TEXT then
     self:become(text.repaired(new))
     return self:tell()
   end
+  local is_at_rest = self.session.is_idle and not self:has_more()
+  if status == C.SAM_REFUSAL_TOO_LONG and is_at_rest and text.runes(new) <= library.number.SAM_MOST_RUNES then
+    status = self:replace(0, self.same, "") or self:replace(0, "", new)
+  end
   self.refusal = type(status) == "number" and library.words(status) or status
-  self.is_refused_locked = self.refusal and not self:is_free() -- what waits there may be what leaves no room
-  if self.refusal and not self.is_refused_locked and self.refusal ~= self.told then
+  self.is_refused_for_now = self.refusal and not is_at_rest
+  if self.refusal and is_at_rest and self.refusal ~= self.told then
     self.session.say(("%s is not at the host as it is here: %s"):format(self.path, self.refusal), "ErrorMsg")
   end
-  self.told = not self.is_refused_locked and self.refusal
+  self.told = is_at_rest and self.refusal
   self:agree()
 end
 
@@ -162,9 +180,10 @@ function File:save_line()
 end
 
 -- Has `act` change the buffer, as a step of undo of its own, or as more of one that stayed open. Cursors and selections stay at their text.
--- The step stays open where more of the host's answer is to come, until the user changes something.
+-- The step stays open where more of the host's answer is to come, until the user changes something. `act` is called again where a CTRL-C
+-- breaks it off: what is not done of it would count as the user's.
 function File:change(act)
-  local buf, marks, mode = self.buf, {}, vim.fn.mode()
+  local buf, marks, mode, column = self.buf, {}, vim.fn.mode(), vim.fn.winsaveview().curswant -- by `$` it is the end of each line
   local was_modifiable, tick = vim.bo[buf].modifiable, api.nvim_buf_get_changedtick(buf)
   local is_open = self.open_step == tick or self.saved == tick -- nothing was typed into the step of that line
   self.is_changing = true
@@ -178,18 +197,21 @@ function File:change(act)
   for _, window in ipairs(vim.fn.win_findbuf(buf)) do marks[window] = mark(unpack(api.nvim_win_get_cursor(window))) end
   local start = mode:find "[vV\22sS\19]" and api.nvim_get_current_buf() == buf and mark(vim.fn.line "v", vim.fn.col "v" - 1)
   local end_step = "let &g:undolevels = &g:undolevels"
-  local is_right, why = pcall(api.nvim_buf_call, buf, function()
-    vim.cmd(end_step .. (is_open and "| silent! undojoin" or ""))
-    act()
-    vim.cmd(end_step)
+  local is_right, why = M.whole(function()
+    api.nvim_buf_call(buf, function()
+      vim.cmd(end_step .. ((is_open or tick ~= api.nvim_buf_get_changedtick(buf)) and "| silent! undojoin" or ""))
+      act()
+      vim.cmd(end_step)
+    end)
   end)
   if start then
     local to_other_end = "normal! " .. (mode:find "[sS\19]" and "\7o\7" or "o") -- of the selection
-    vim.cmd(to_other_end)
+    pcall(vim.cmd, to_other_end) -- a CTRL-C ends the selection
     go_to(0, start)
-    vim.cmd(to_other_end)
+    pcall(vim.cmd, to_other_end)
   end
   for window, at in pairs(marks) do go_to(window, at) end
+  vim.fn.winrestview { curswant = column }
   self:save_line()
   if not was_modifiable then vim.bo[buf].modifiable = false end
   self.is_changing = nil
@@ -204,41 +226,35 @@ function File:set_all(new)
   vim.bo[self.buf].endofline = ends
 end
 
--- Puts a text in the place of bytes `from` up to `to` of the buffer, which are all up to its end if `is_end`.
-function File:put(from, to, new, is_end)
+-- Puts a text in the place of bytes `from` up to `to` of the buffer. Lines that come in between two leave what stands at the ends of these.
+function File:put(from, to, new)
   local row, column = self:spot(from)
   local last_row, last_column = self:spot(to)
-  if is_end then
-    last_row = api.nvim_buf_line_count(self.buf) - 1
-    last_column = #self:line(last_row)
-    if column > #self:line(row) then
-      column, new = column - 1, "\n" .. new
-    elseif column == 0 and row > 0 then -- the newline before may be the last one then
-      row, column, new = row - 1, #self:line(row - 1), "\n" .. new
-    end
-    vim.bo[self.buf].endofline = new:sub(-1) == "\n"
-    new = new:gsub("\n$", "")
+  local lines = vim.split(new, "\n", { plain = true })
+  local is_at_end = lines[1] == "" and column == #self:line(row)
+  if from == to and #lines > 1 and (is_at_end or lines[#lines] == "" and column == 0) then
+    table.remove(lines, is_at_end and 1 or #lines)
+    if is_at_end then row = row + 1 end
+    return api.nvim_buf_set_lines(self.buf, row, row, true, lines)
   end
-  api.nvim_buf_set_text(self.buf, row, column, last_row, last_column, vim.split(new, "\n", { plain = true }))
+  api.nvim_buf_set_text(self.buf, row, column, last_row, last_column, lines)
 end
 
--- Has the buffer have another text, where that differs.
+-- Has the buffer have another text, where that differs. The texts are compared with a newline at their ends, which is the option.
 function File:become(new)
-  local old = self:text()
-  if old == new then return end
+  if self:text() == new then return end
   self:change(function()
+    local old = self:text()
     if old == "" or new == "" then return self:set_all(new) end
-    local changes = text.differences(old, new, true)
+    local before, ends = vim.bo[self.buf].endofline and old or old .. "\n", new:sub(-1) == "\n"
+    local changes = text.differences(before, ends and new or new .. "\n", true)
     for n = #changes, 1, -1 do
       local change = changes[n]
-      self:put(change.from, change.to, change.text, change.to == #old)
+      local past = change.to == #before and 1 or 0 -- the last lines go with the newline before them
+      self:put(change.from - past, change.to - past, change.text)
     end
+    vim.bo[self.buf].endofline = ends
   end)
-end
-
--- The host has changed the shown text. If the client lacks what the user did, the user chooses between the two texts.
-function File:moved()
-  if self.refusal then self.is_apart = true else self.is_behind = true end
 end
 
 -- The client has gone on: the buffer gets what it shows.
@@ -263,13 +279,14 @@ function File:fill()
   self.same, self.holes = self.session:shown(self.tag)
   self:change(function() self:set_all(self.same) end)
   options.undolevels, options.modifiable, options.modified = levels, true, false
-  self.is_filled, self.is_new = true, true
+  self.is_filled, self.is_read = true, false
   self:agree()
   api.nvim_buf_attach(self.buf, false, {
     on_lines = function(_, _, _, first, _, last)
       if not self.is_filled then return true end
       if self.is_changing then return end
-      self.is_exact = pcall(self.note, self, first, last) and self.is_exact -- else `tell` finds it, or what is wrong
+      local is_right, fits = pcall(self.note, self, first, last)
+      self.is_exact = is_right and fits and self.is_exact -- else `tell` finds it, or what is wrong
       self.session:wake()
     end,
     on_reload = function() -- by undo of :e!
@@ -282,14 +299,10 @@ function File:fill()
       self.session:wake()
     end,
   })
-  vim.schedule(function() self:welcome() end)
-end
-
--- Has Neovim do what it does with a file that was read, as to find its filetype.
-function File:welcome()
-  if not self.is_new or not api.nvim_buf_is_loaded(self.buf) then return end
-  self.is_new = false
-  api.nvim_buf_call(self.buf, function() vim.cmd "silent doautocmd BufReadPost" end)
+  vim.schedule(function() -- has Neovim do what it does with a file that was read, as to find its filetype
+    self.is_read = true
+    if self.is_filled then api.nvim_buf_call(self.buf, function() vim.cmd "silent doautocmd BufReadPost" end) end
+  end)
 end
 
 return M

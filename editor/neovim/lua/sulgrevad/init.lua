@@ -31,7 +31,7 @@ local function session_of(command, takes)
     label = first .. "-" .. number
     session = M.sessions[label]
   end
-  if not session or session.over then M.sessions[label] = require("sulgrevad.session").begin(label, command, takes, M.new_file) end
+  if not session or session.over then M.sessions[label] = require("sulgrevad.session").begin(label, command, takes) end
   return M.sessions[label]
 end
 
@@ -42,21 +42,17 @@ local function session_named(label)
   return session_of(label == "localhost" and "samhost" or (vim.g.sulgrevad_command or "ssh %s samhost"):format(label))
 end
 
--- Waits until something holds, for a host that answers or is asked the first time. Whether it holds.
+-- Waits until something holds, for a host that answers or is asked the first time, or until CTRL-C. Whether it holds.
 local function wait(session, seconds, holds)
-  vim.wait(1000 * seconds, function() return session.over or holds() or session.line:details().is_known and session.line:is_late() end, 5)
+  local sessions, line = require "sulgrevad.session", session.line
+  local interrupts = sessions.interrupts
+  vim.wait(1000 * seconds, function()
+    return session.over or holds() or sessions.interrupts > interrupts or line:details().is_known and line:is_late()
+  end, 5)
   return holds()
 end
 
 --## Buffers
-
--- Sets a buffer's options for a file of a host.
-local function set_up(buf)
-  local options = vim.bo[buf]
-  options.buftype = "acwrite"
-  if options.fileformat ~= "unix" then options.fileformat = "unix" end -- a carriage return is a character of the text
-  options.swapfile = false -- the host has the text, or a copy that is kept here
-end
 
 -- The host has said what becomes of a file that a buffer waits for: it comes, or is refused, or is in another buffer already.
 local function answered(file)
@@ -71,7 +67,6 @@ end
 function M.read(buf, name)
   local label, path = name:match "^sulgrevad://([^/]*)/(.+)$"
   if not label or not label:find(LABEL) then fail("no file is named by %s", name) end
-  set_up(buf)
   local file = M.files[buf]
   if file and not file.session.over and file.tag then
     file.session:go_on()
@@ -82,20 +77,19 @@ function M.read(buf, name)
     M.files[buf] = file
   end
   file.is_late = not wait(file.session, SECONDS_TO_OPEN, function()
-    return file.is_filled and not file.is_reloading or not file.tag and (file.refusal or file.twin)
+    return file.is_filled and file.is_read and not file.is_reloading or not file.tag and (file.refusal or file.twin)
   end)
-  if file.is_filled then file:welcome() end
+  file.left_at = file.is_filled and api.nvim_buf_get_changedtick(buf)
   local why = not file.tag and file.refusal or file.is_late and file.session.over
   if why then fail("%s: %s", path, why) end
   if file.is_late then say(path .. " comes once the host answers", "WarningMsg") end
 end
 
--- A file of a session, with a buffer of its own.
+-- A file of a session, with a buffer of its own, as another program wants one shown.
 function M.new_file(session, path)
   local buf = api.nvim_create_buf(true, false)
-  pcall(api.nvim_buf_set_name, buf, ("sulgrevad://%s/%s"):format(session.label, path)) -- the buffer of a session that is over may have it
-  set_up(buf)
   M.files[buf] = require("sulgrevad.file").new(session, path, buf)
+  M.files[buf]:rename(path) -- the buffer of a session that is over may have the name
   return M.files[buf]
 end
 
@@ -120,9 +114,9 @@ end
 
 -- BufFilePre: :file, or :saveas before it writes, is about to give the buffer another name. It gets its own back.
 function M.rename(buf)
-  local file = M.files[buf]
   vim.schedule(function()
-    if not file or M.files[buf] ~= file or file.name == "" or api.nvim_buf_get_name(buf) == file.name then return end
+    local file = M.files[buf]
+    if not file or file.name == "" or api.nvim_buf_get_name(buf) == file.name then return end
     api.nvim_buf_set_name(buf, file.name)
     say("a file of the host keeps its name", "WarningMsg")
   end)
@@ -163,12 +157,10 @@ function M.start(words)
   local takes = rest:match "^%-%-take%s*(%x*)$"
   local session = session_of(command, takes)
   if not takes then return vim.cmd("edit " .. vim.fn.fnameescape(("sulgrevad://%s/%s"):format(session.label, rest))) end
-  wait(session, SECONDS_TO_OPEN, function()
-    local state = session:state()
-    return session.is_named and not state.command_locked and state.version > 1 -- the host has named its files
-  end)
-  if session.over then fail("%s", session.over) end
   session:show_all()
+  local are_shown = wait(session, SECONDS_TO_OPEN, function() return session.are_shown end)
+  if session.over then fail("%s", session.over) end
+  if not are_shown then return say("the session's files come once the host answers", "WarningMsg") end
   if not next(session.files) then say("no file is open in the session", "WarningMsg") end
 end
 

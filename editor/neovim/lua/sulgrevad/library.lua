@@ -21,7 +21,8 @@ local declared = declarations(file:read "*a")
 file:close()
 if not pcall(ffi.typeof, "sam_client") then ffi.cdef(declared) end -- a type can't be declared twice
 M.C = ffi.load(M.path)
-M.version = M.number.SAM_VERSION_MAJOR * 65536 + M.number.SAM_VERSION_MINOR * 256 + M.number.SAM_VERSION_PATCH
+local version = M.number.SAM_VERSION_MAJOR * 65536 + M.number.SAM_VERSION_MINOR * 256 + M.number.SAM_VERSION_PATCH
+if M.C.sam_library_version() ~= version then error(("%s is of another version than %s"):format(M.path, M.header), 0) end
 
 -- Words about a status.
 function M.words(status) return ffi.string(M.C.sam_status_text(status)) end

@@ -8,8 +8,9 @@ local C, must, try, bytes, size, count = library.C, library.must, library.try, l
 local M, Line = {}, {}
 Line.__index = Line
 
-local SECONDS_LATE = 2 -- after which an answer counts as late
 local MOST_TOLD = 4096 -- bytes of a line on standard error
+local MOST_FAILURES = 6 -- connections, one after another, of which the last is tried half a minute after the first
+local STUCK = "^samhost: session %x+ can't go on" -- as long as the folder in which it began is gone, say
 local SWAPPED = { ["\0"] = "\n", ["\n"] = "\0" } -- Neovim hands out lines, in which a zero is a newline
 
 function M.now() return math.floor(uv.hrtime() / 1e6) end
@@ -55,7 +56,10 @@ function Line:connect()
     end
   end
   local is_made, job = pcall(fn.jobstart, { "/bin/sh", "-c", quietly .. "exec " .. self.command .. " " .. words }, {
-    on_stdout = of_newest(self.came), on_stderr = of_newest(self.tell), on_exit = of_newest(self.ended),
+    on_stdout = of_newest(self.came), on_stderr = of_newest(self.tell), on_exit = of_newest(function()
+      self:broke(self.told ~= "" and self.told or "the host is gone")
+      self.session:go_on()
+    end),
     cwd = fn.isdirectory(self.folder) == 1 and self.folder or nil, detach = true, -- without the screen, on which ssh would ask
   })
   if not is_made or job <= 0 then
@@ -74,17 +78,11 @@ function Line:drop(is_gentle)
   must("client_broken", self.client, self.attempt, M.now())
 end
 
--- The newest connection is over. If no host was met yet, another is not tried.
+-- The newest connection is over. Another is not tried if no host was met yet, or if one said each time that the session can't go on.
 function Line:broke(why)
   self:drop()
-  if not self:details().is_known then self:lose(why) end
-end
-
--- No connection comes any more.
-function Line:lose(why, is_gentle)
-  if self.session.over then return end
-  self:drop(is_gentle)
-  self.session:end_here(why)
+  local details = self:details()
+  if not details.is_known or self.is_stuck and details.failures >= MOST_FAILURES then self.session:end_here(why) end
 end
 
 -- Tries a line that is lost or silent at once.
@@ -110,14 +108,10 @@ function Line:came(data)
   self.session:go_on()
   self.session.is_idle = false
   local status = try("client_receive", self.client, self.attempt, data, #data, M.now())
-  if self:details().state == C.SAM_LINE_LOST then return self:lose(library.words(status)) end
+  local state = self:details().state
+  if state == C.SAM_LINE_OPEN or state == C.SAM_LINE_LOST then self.is_stuck = state == C.SAM_LINE_LOST end
+  if state == C.SAM_LINE_LOST then return self.session:end_here(library.words(status)) end
   if status ~= 0 then self:broke(library.words(status)) end
-  self.session:go_on()
-end
-
--- The job has ended.
-function Line:ended()
-  self:broke(self.told ~= "" and self.told or "the host is gone")
   self.session:go_on()
 end
 
@@ -125,33 +119,31 @@ end
 function Line:tell(data)
   for told in table.concat(data, "\n"):gmatch "[^\r\n]+" do
     if told ~= self.told then self.session.say(told:sub(1, MOST_TOLD)) end
-    self.told = told
+    self.told, self.is_stuck = told, self.is_stuck or told:find(STUCK) ~= nil
   end
 end
 
 --## How the line is
 
 -- Whether there is no line, though there was one.
-function Line:is_broken()
-  local details = self:details()
-  return details.is_known and details.state ~= C.SAM_LINE_OPEN and details.state ~= C.SAM_LINE_LATE
-end
-
--- For how many seconds nothing has come, though something was due.
-function Line:silence() return tonumber(self:details().silence) / 1000 end
+function Line:is_broken() return self:details().is_broken end
 
 -- Whether there is no line, or an answer is late.
-function Line:is_late() return self.session.over ~= nil or self:is_broken() or self:silence() > SECONDS_LATE end
+function Line:is_late()
+  local details = self:details()
+  return self.session.over ~= nil or details.is_broken or details.silence >= details.overdue_after
+end
 
 -- How the line is, in words, or "" where it is well.
 function Line:words()
   if self.session.over then return self.session.over end
-  if not self:is_broken() then return self:is_late() and ("no answer for %d s"):format(self:silence()) or "" end
+  local is_broken, seconds = self:is_broken(), tonumber(self:details().silence) / 1000 -- for which nothing has come that was due
+  if not is_broken then return self:is_late() and ("no answer for %d s"):format(seconds) or "" end
   local goes_on = "connecting"
   if not self.job and try("client_due_in", self.client, M.now(), count) == 0 then
     goes_on = ("again in %d s"):format(math.ceil(tonumber(count[0]) / 1000))
   end
-  return ("LINE LOST %d s, %s"):format(self:silence(), goes_on)
+  return ("LINE LOST %d s, %s"):format(seconds, goes_on)
 end
 
 return M

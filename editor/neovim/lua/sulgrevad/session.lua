@@ -14,12 +14,12 @@ Session.__index = Session
 
 local VERSION, MESSAGES = 2, 1 -- of the core protocol, and of the session's messages
 local MOST_RUNES = library.number.SAM_MOST_RUNES -- of a text
-local ALL_TAGS = 65536 -- of a session
 local TICK = 500 -- milliseconds after which the clock is looked at again
-local SECONDS_UNKEPT = 10 -- of a lost line, until what the host may not have is kept here again
+local PAUSE = 20 -- between copies that are kept, by the time that these took
 local SECONDS_TO_LEAVE = 10 -- for which the end of Neovim waits for a host that answers
 local NAME = "^%x%x%x%x%x%x%x%x%x%x%x%x%x%x%x%x$" -- of a session: it becomes a word of a command
 local GAP = 0xFFFFFFFF -- SAM_GAP: a rune that is not loaded
+local ENDED = "the session is over"
 
 local is_leaving = false -- Neovim ends
 local unsaid = {} -- words that are still to be shown, with their highlights
@@ -36,24 +36,35 @@ function M.say_last(words)
   io.stderr:write((uv.guess_handle(2) == "tty" and "\27[?1049lsulgrevad: %s\r\n\27[?1049h" or "sulgrevad: %s\n"):format(words))
 end
 
+M.interrupts = 0 -- CTRL-Cs that came while the plugin worked
+
+-- The mode in full. A CTRL-C makes the next function of Neovim fail, whichever that is, so first comes one that does nothing.
+local function mode_now()
+  if not pcall(vim.fn.mode) then M.interrupts = M.interrupts + 1 end
+  return vim.fn.mode(1)
+end
+
+-- Whether the user is in Normal mode, and not amid an operator or one command of Insert mode.
+local function is_normal() return mode_now():find "^nt?$" end
+
 -- Shows words for people, in Normal mode: in Insert mode short ones would go at once, and long ones take the user's next key. Neovim would
--- end them at U+0000.
-function M.say(words, highlight)
+-- end them at U+0000. `heard` is called then, if it is given.
+function M.say(words, highlight, heard)
   if is_leaving then return highlight == "ErrorMsg" and M.say_last(words) end
-  table.insert(unsaid, { words, highlight })
+  table.insert(unsaid, { words, highlight, heard })
   local function show()
-    if vim.fn.mode() ~= "n" or M.is_exiting() then return vim.defer_fn(show, TICK) end
+    if not is_normal() or M.is_exiting() then return vim.defer_fn(show, TICK) end
     local said = table.remove(unsaid, 1)
     api.nvim_echo({ { "sulgrevad: " .. said[1]:gsub("%z", "^@"), said[2] } }, true, {})
+    if said[3] then said[3]() end
   end
   vim.schedule(show)
 end
 
--- Begins a session: `command` runs samhost; `takes` is the name of another terminal's session, perhaps empty, or nil. `new_file` makes a
--- file with a buffer, of the session and a path, where another program wants one shown.
-function M.begin(label, command, takes, new_file)
+-- Begins a session: `command` runs samhost; `takes` is the name of another terminal's session, perhaps empty, or nil.
+function M.begin(label, command, takes)
   local session = setmetatable({
-    label = label, command = command, new_file = new_file, say = M.say, files = {}, hidden = {}, copies = {}, kept_at = 0, is_lost = false,
+    label = label, command = command, say = M.say, files = {}, copies = {}, keeps_from = 0, is_lost = false,
     answers = {}, -- by the numbers of tasks: what is called with the host's answer, or with nil where none comes
     runs = {}, -- by the numbers of requests: command lines
     waiting = {}, -- what is done once the client rests and a condition holds
@@ -110,27 +121,37 @@ function Session:wake()
   self.is_awake = true
 end
 
--- Whether buffers can get what the host changed: not while an operator waits for its motion, since that keeps the number of its line, and
--- not where Neovim lets no text change, as while a mapping with <expr> waits for a key, which no function says.
+-- Insert mode begins at a block: as it ends, what was typed goes into the block's lines by their numbers.
+local is_in_block = false
+api.nvim_create_autocmd("ModeChanged", { callback = function()
+  is_in_block = vim.v.event.new_mode:find "^i" and (is_in_block or vim.v.event.old_mode:find "^[\19\22]")
+end })
+
+-- Whether buffers can get what the host changed: not while Neovim keeps numbers of lines for what the user has begun, be it a block, an
+-- operator, a completion, or a command line, but the one in which the host's paths are completed; and not where it lets no text change, as
+-- while a mapping with <expr> waits for a key, which no function says.
 local function is_ready()
   local _, why = pcall(api.nvim_win_close, -1, true)
-  return is_leaving or not vim.fn.mode(1):find "^no" and not why:find "E523" and not why:find "E565"
+  local mode, line = mode_now(), vim.fn.getcmdtype() .. vim.fn.getcmdline()
+  local keeps_numbers = is_in_block or mode:find "^no" or mode:find "^[iR]v?c" or line ~= "" and not line:find "^:[:%s]*Sulgrevad"
+  return is_leaving or not keeps_numbers and not why:find "E523" and not why:find "E565"
 end
 
--- Goes on with all that waits. An error ends the session here, and the buffers keep their texts.
+-- Goes on with all that waits. An error ends the session here, and the buffers keep their texts; a CTRL-C is none.
 function Session:go_on()
   self.is_awake = false
-  if self.over or self.is_going or not is_ready() then return end
+  if self.over or self.is_going then return end
+  if not is_ready() then return self.line:push() end
   self.is_going = true
-  local is_right, why = xpcall(function()
+  local is_right, why = files.whole(function()
     self.line:tick()
     while not self.over and self:advance() do end
     if self.over then return end
     self.line:push()
     self:tell_line()
-  end, function(why) return tostring(why) .. (vim.o.verbose > 0 and debug.traceback() or "") end)
+  end)
   self.is_going = false
-  if not is_right then self.line:lose(why) end
+  if not is_right then self:end_here(why) end
 end
 
 -- Has the client go on by one thing, and takes steps and refusals. Returns what it has told (SAM_CLIENT_..), or nil where memory is short.
@@ -174,12 +195,13 @@ function Session:advance()
   return told ~= nil -- else it goes on with the next tick
 end
 
--- Takes a step with its splices. The dot of a line's file is the line's own only until the next one begins.
+-- Takes a step with its splices. Where the client lacks what the user did with a text that the host changes, the user chooses between the
+-- two. The dot of a line's file is the line's own only until the next one begins.
 function Session:take_step(did)
   local splice, request = library.splice, tonumber(did.request)
   while self:try("next_splice", splice) == 0 do
     local file = self.files[splice.tag]
-    if file and splice.kind ~= C.SAM_SPLICE_EMPTIED then file:moved() end
+    if file and splice.kind ~= C.SAM_SPLICE_EMPTIED then file[file.refusal and "is_apart" or "is_behind"] = true end
   end
   self.running = self.runs[request] or self.running
   if did.step == C.SAM_STEP_RECEIVED and did.kind == C.SAM_KIND_HUNLOCK then
@@ -212,9 +234,9 @@ function Session:is_here(tag)
   return state.is_open and not state.is_locked and self:try("first_gap", tag, 0, library.place) ~= 0
 end
 
--- Whether the host has all that was done here, and has done it.
+-- Whether the host has all that was done here, has done it, and may keep it: a session that can't go on may be there no more.
 function Session:has_all()
-  if next(self.answers) or self:state().command_locked then return false end
+  if self.line.is_stuck or next(self.answers) or self:state().command_locked then return false end
   for tag, file in pairs(self.files) do
     if file:is_touched() or file.is_reloading or self:file_state(tag).is_locked then return false end
   end
@@ -254,16 +276,15 @@ end
 function Session:meet(note)
   if not note then return end
   if note.kind == C.SAM_NOTE_SESSION then
-    if note.number ~= MESSAGES or not note.path:find(NAME) then return self.line:lose "samhost there is of another version" end
+    if note.number ~= MESSAGES or not note.path:find(NAME) then return self:end_here "samhost there is of another version" end
     self.line.name, self.is_named = note.path, true
   elseif note.kind == C.SAM_NOTE_ENDED then
     self:must "acknowledge" -- so that the host need not wait
     self.line:push()
-    self.line:lose("the session is over", true)
+    self.has_failed = note.number ~= 0
+    self:end_here(ENDED, true)
   elseif note.kind == C.SAM_NOTE_TAKEN_OVER then
-    self.line:lose("another terminal has taken the session over: " .. note.text)
-  elseif note.kind == C.SAM_NOTE_ANEW then
-    if note.number < ALL_TAGS then self.hidden[note.number] = true end -- it is none of the user's
+    self:end_here("another terminal has taken the session over: " .. note.text)
   elseif note.kind == C.SAM_NOTE_SHOWN then
     self:ask(C.SAM_EVENT_OFFER_VERSION)
     self:once(function() return self:file_state(note.tag).is_known end, function() self:show_file(note.tag, note.number) end)
@@ -286,12 +307,9 @@ function Session:rest()
   end
   self.waiting = {}
   for _, one in ipairs(waiting) do
-    if one.holds() then
-      one.act()
-      has_acted = true
-    else
-      table.insert(self.waiting, one)
-    end
+    local holds = one.holds()
+    if holds then one.act() else table.insert(self.waiting, one) end
+    has_acted = has_acted or holds
   end
   return has_acted
 end
@@ -300,11 +318,14 @@ end
 function Session:attend(file)
   if file.is_closing or not api.nvim_buf_is_loaded(file.buf) then return false end
   if not file.is_filled then file:fill() end
+  local name = self:name(file.tag)
+  if name ~= (file.known_as or name) then file:rename(name) end -- by the command line `f`: it is written there from now on
+  file.known_as = name
   self:must("is_unsaved", file.tag, truth)
   local is_modified = truth[0] or file.writing ~= nil or file.refusal ~= nil
   if vim.bo[file.buf].modified ~= is_modified then vim.bo[file.buf].modified = is_modified end
-  if not file.is_refused_locked or not file:is_free() then return false end
-  file.is_refused_locked, file.tick = false, nil -- what was refused while the file was locked is told again
+  if not file.is_refused_for_now or file:has_more() then return false end
+  file.is_refused_for_now, file.tick = false, nil -- what was refused while the file was locked is told again
   return true
 end
 
@@ -323,8 +344,7 @@ function Session:open(path, buf, answered)
         file.twin = other.buf
       else
         self:open_tag(note.tag, file)
-        local function is_known() return self:file_state(note.tag).is_known end
-        if file.is_closing then self:once(is_known, function() self:close(file) end) end
+        if file.is_closing then self:once(function() return self:file_state(note.tag).is_known end, function() self:close(file) end) end
       end
       vim.schedule(function() answered(file) end)
     end)
@@ -335,7 +355,10 @@ end
 
 -- Opens a file of the session, which perhaps has joined just now, and has all of it be loaded. `file` shows it, if that is given.
 function Session:open_tag(tag, file)
-  if file then file.tag, self.files[tag] = tag, file end
+  if file then
+    file.tag, self.files[tag] = tag, file
+    self:tell_left(file)
+  end
   self:ask(C.SAM_EVENT_OFFER_VERSION)
   self:ask(C.SAM_EVENT_OPEN, tag)
   self:must("see", tag, 0, MOST_RUNES)
@@ -347,93 +370,115 @@ function Session:close_tag(tag)
   self:ask(C.SAM_EVENT_CLOSE, tag)
 end
 
--- Shows a file of the session whose name is known, at a line, where that is not 0.
-function Session:show_file(tag, line)
+-- The host's name of a file: its path, or the end of it.
+function Session:name(tag)
   self:must("name", tag, bytes, library.MOST_BYTES, size)
-  local path = ffi.string(bytes, size[0]) -- or the end of it
-  if not self.files[tag] then self:open_tag(tag, self.new_file(self, path)) end
-  local file = self.files[tag]
-  if line > 0 then self:once(function() return file.is_filled end, function() file:go_to(line - 1, 0) end) end
-  if vim.fn.mode() == "n" and pcall(api.nvim_set_current_buf, file.buf) then return end
-  M.say(("another program wants buffer %d shown"):format(file.buf))
+  return ffi.string(bytes, size[0])
 end
 
--- Shows all files that the session has, the first one last, but those that terminals keep for themselves.
+-- Shows a file of the session whose name is known, at a line, where that is not 0.
+function Session:show_file(tag, line)
+  if not self.files[tag] then self:open_tag(tag, require("sulgrevad").new_file(self, self:name(tag))) end
+  local file = self.files[tag]
+  if line > 0 then self:once(function() return file.is_filled end, function() file:go_to(line - 1, 0) end) end
+  vim.schedule(function() -- since one that was unloaded waits for the host
+    if is_normal() and pcall(api.nvim_set_current_buf, file.buf) then return end
+    M.say(("another program wants buffer %d shown"):format(file.buf))
+  end)
+end
+
+-- Shows all files that a session has which was taken over, once the host has named them, the first one last: it has none that terminals
+-- keep for themselves.
 function Session:show_all()
-  for tag = tonumber(self:state().tags) - 1, 1, -1 do
-    if self:file_state(tag).is_known and not self.hidden[tag] then self:show_file(tag, 0) end
-  end
+  self:once(function() return self.is_named and not self:state().command_locked and self:state().version > 1 end, function()
+    for tag = tonumber(self:state().tags) - 1, 1, -1 do
+      if self:file_state(tag).is_known then self:show_file(tag, 0) end
+    end
+    self.are_shown = true
+  end)
   self:go_on()
 end
 
--- The text of a buffer is about to go: the client is told of it, and what the host may not have is kept here.
+-- The text of a buffer is about to go: the client is told of it, and what the host may not have is kept here. What the client refuses never
+-- comes to it, so that stays.
 function Session:unload(file)
   if not file.is_filled then return end
   if file:is_touched() and not self.over then file:tell() end
-  if file.is_next and not self.over then self:ask_write(file) end
   if self.over or file.refusal or not self:has_all() then self:keep_copy(file) end
+  local words = file.refusal and not self.over and self:words_of_copy(file)
+  if not words then return end
+  M.say(words, "WarningMsg")
+  self.copies[file.tag] = nil
 end
 
--- Closes a file for good, also one that is still to come. The host keeps a copy of what was not written.
+-- Closes a file for good, also one that is still to come, once its writes are answered. The host keeps a copy of what was not written.
 function Session:close(file)
   file.is_closing, file.is_filled = true, false
   if self.over or not file.tag then return end
-  local words = file.refusal and self:words_of_copy(file)
-  if words then
-    M.say(words, "WarningMsg")
-    self.copies[file.tag] = nil -- it stays
-  end
-  self:close_tag(file.tag)
-  self:once(function() return not self:file_state(file.tag).is_known end, function() self.files[file.tag] = nil end)
+  self:once(function() return not file.writing end, function()
+    self:close_tag(file.tag)
+    self:once(function() return not self:file_state(file.tag).is_known end, function() self.files[file.tag] = nil end)
+  end)
   self:go_on()
 end
 
--- Has the host write a file. What became of it shows in `writing`, and in whether the file is unsaved. While a write is not answered the
--- next one waits: it would replace what the first may be refused for.
+-- Has the host write a file. What became of it shows in `writing`, and in whether the file is unsaved. The write behind one that is refused
+-- replaces another program's text. So while one is not answered the next one waits, and none is made that comes before the user hears why.
 function Session:write(file)
   local options = vim.bo[file.buf]
+  if options.fileformat ~= "unix" then error("sulgrevad: not written: a carriage return is a character here: :set fileformat=unix", 0) end
   if options.fixendofline and not options.binary and not options.endofline then options.endofline = true end
   file:tell() -- also of changes that no event has told
   if file.refusal then error(("sulgrevad: %s is not written: %s"):format(file.path, file.refusal), 0) end
-  file.is_next = file.writing ~= nil
-  if not file.is_next then self:ask_write(file) end
+  if file.unheard then
+    vim.schedule(function() file.unheard = nil end) -- behind all keys that were typed before this error showed
+    error("sulgrevad: " .. file.unheard, 0)
+  end
+  if file.writing then file.is_next = true else self:ask_write(file) end
   self:go_on()
 end
 
 function Session:ask_write(file)
   self:must("write", file.tag, library.place)
-  local task = library.place[0]
-  file.writing, file.is_next, self.answers[task] = task, false, function(note)
-    if file.writing == task then file.writing = nil end
-    if not note then return end
-    local is_saved = note.kind == C.SAM_NOTE_SAVED
-    local is_plain = is_saved and note.code == C.SAM_NOTE_NO_CODE
-    M.say(is_plain and ("%s: %s is written"):format(self.label, file.path) or note.text, not is_plain and "ErrorMsg" or nil)
-    if is_saved and file.is_next and not file.refusal then self:ask_write(file) end
+  file.writing = true
+  self.answers[library.place[0]] = function(note)
+    local is_next = file.is_next
+    file.writing, file.is_next = nil, nil
+    if note and note.kind == C.SAM_NOTE_SAVED then
+      local is_plain = note.code == C.SAM_NOTE_NO_CODE
+      M.say(is_plain and ("%s: %s is written"):format(self.label, file.path) or note.text, not is_plain and "ErrorMsg" or nil)
+      if is_next and not file.refusal then self:ask_write(file) end
+    elseif note then
+      file.unheard = note.text
+      M.say(note.text, "ErrorMsg", function() file.unheard = nil end)
+    end
   end
 end
 
--- Has the host read a file anew from its disk, as a hidden file. Its text takes the place of the buffer's; undo takes that back.
+-- Has the host read a file anew from its disk, as a hidden file. Its text takes the place of the buffer's; undo takes that back. What was
+-- typed since the user was left to wait for it stays.
 function Session:reload(file)
-  file.is_reloading = true
+  file.is_reloading, file.left_at = true, nil
   local function is_free() return file:is_free() or not file.is_filled end
-  local function accept(anew)
-    if file.is_filled then
-      local note = ffi.new("sam_note", { kind = C.SAM_NOTE_RELOADED, tag = file.tag, number = anew })
-      library.must("note_write", note, "", "", "", bytes, library.MOST_BYTES, size)
-      self:must("put_note", bytes, size[0], now())
-      self:ask(C.SAM_EVENT_WRITE, file.tag)
-    end
-    self:close_tag(anew)
+  local function finish(anew, why)
+    if why then M.say(("%s is not read anew: %s"):format(file.path, why), "ErrorMsg") end
+    if anew then self:close_tag(anew) end
     self:once(is_free, function() file.is_reloading = false end)
   end
+  local function accept(anew)
+    if not file.is_filled then return finish(anew) end
+    local note = ffi.new("sam_note", { kind = C.SAM_NOTE_RELOADED, tag = file.tag, number = anew })
+    library.must("note_write", note, "", "", "", bytes, library.MOST_BYTES, size)
+    self:must("put_note", bytes, size[0], now())
+    self:ask(C.SAM_EVENT_WRITE, file.tag)
+    finish(anew)
+  end
   self:request(C.SAM_NOTE_RELOAD, file.tag, "", function(note)
-    if note.kind ~= C.SAM_NOTE_ANEW then
-      file.is_reloading = false
-      return M.say(("%s is not read anew: %s"):format(file.path, note.text), "ErrorMsg")
-    end
+    if note.kind ~= C.SAM_NOTE_ANEW then return finish(nil, note.text) end
     self:open_tag(note.number)
     self:once(function() return self:is_here(note.number) and is_free() end, function()
+      local left_at = file.is_filled and file.left_at
+      if left_at and left_at ~= api.nvim_buf_get_changedtick(file.buf) then return finish(note.number, "it has changed here meanwhile") end
       if file.is_filled then file:become((self:shown(note.number))) end
       self:once(is_free, function() accept(note.number) end) -- the client has put it
     end)
@@ -487,6 +532,15 @@ function Session:words_of_copy(file)
   return copy and ("the text of %s is in %s"):format(file.path, copy)
 end
 
+-- Says where earlier sessions have kept texts of a file: the host may lack what these have.
+function Session:tell_left(file)
+  local own = vim.tbl_values(self.copies)
+  for copy, written in pairs(copies.left(self.line.folder, file.path)) do
+    local words = "a text of %s was kept here: %s, of %s"
+    if not vim.tbl_contains(own, copy) then M.say(words:format(file.path, copy, os.date("%F %T", written)), "WarningMsg") end
+  end
+end
+
 -- Keeps here the texts that are modified, if `is_lost`, or else those that the client refuses. Returns words about each copy.
 function Session:keep_copies(is_lost)
   local words = {}
@@ -505,28 +559,35 @@ function Session:drop_copies()
     if not (file and file.refusal) then
       if copy then uv.fs_unlink(copy) end
       self.copies[tag] = nil
+      if file then file.kept = nil end
     end
   end
   return true
 end
 
--- The clock has gone on. While the line is lost, or the session is over, copies are kept, so that they are there if Neovim is killed.
+-- The clock has gone on. While the line is lost or late, or the session is over, copies are kept, so that they are there if Neovim is
+-- killed: of a long text, or to a slow disk, less often.
 function Session:tick()
   self:go_on()
-  local is_lost = self.over or not self:drop_copies() and self.line:silence() > SECONDS_UNKEPT
-  local seconds = uv.hrtime() / 1e9
-  if seconds - self.kept_at > SECONDS_UNKEPT and #self:keep_copies(is_lost) > 0 then self.kept_at = seconds end
+  local is_lost, start = self.over or not self:drop_copies() and self.line:is_late(), now()
+  if start < self.keeps_from then return end
+  self:keep_copies(is_lost)
+  self.keeps_from = now() + PAUSE * (now() - start)
 end
 
 --## The end
 
--- The session is over here. The buffers keep their texts, and what the host may not have of them is kept.
-function Session:end_here(why)
-  local has_all = self:has_all()
+-- The session is over here, with `is_gentle` once the last bytes have arrived. The buffers keep their texts, and what the host may not have
+-- of them, or may not keep, is kept.
+function Session:end_here(why, is_gentle)
+  if self.over then return end
+  self.line:drop(is_gentle)
+  local has_all = self:has_all() and not self.has_failed
   self.over = why
   if not next(self.files) then self.timer:close() end
-  for _, file in pairs(self.files) do
-    if file.is_filled and not has_all then vim.bo[file.buf].modified = true end
+  for tag, file in pairs(self.files) do
+    self:must("is_unsaved", tag, truth)
+    if file.is_filled and not has_all and (truth[0] or file.writing) then vim.bo[file.buf].modified = true end
     if file.is_filled and has_all and not file.refusal then file.kept = api.nvim_buf_get_changedtick(file.buf) end
     file.writing = nil
   end
@@ -550,13 +611,13 @@ function Session:leave()
     self:ask(C.SAM_EVENT_EXIT)
     self:go_on()
     vim.wait(1000 * SECONDS_TO_LEAVE, function() return self.over or self.line:is_broken() end, 10)
-    self.line:lose "left"
-  elseif not was_over then
-    self.line:lose "the host does not answer"
-    local words = "%s: %s; the session stays there: :Sulgrevad %s --take %s"
+  end
+  if not was_over and self.over ~= ENDED then
+    self:end_here "the host does not answer"
+    local words = "%s: %s; the session may stay there: :Sulgrevad %s --take %s"
     M.say_last(words:format(self.label, self.over, self.command, self.line.name))
   end
-  for _, words in ipairs(self:keep_copies(not has_all)) do M.say_last(words) end
+  for _, words in ipairs(self:keep_copies(not has_all or self.has_failed)) do M.say_last(words) end
 end
 
 return M
