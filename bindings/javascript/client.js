@@ -1,13 +1,14 @@
 /* The user's side of a session in one handle: an overlay, and its line to the host. */
 import { editsOut, isFollowed, lendRoom, lendReplacements } from "./edits.js";
-import { PREFIX, make, makeOfBytes, one } from "./held.js";
+import { PREFIX, bytesBy, make, makeOfBytes, one } from "./held.js";
 import { Clocked } from "./line.js";
 import { MOST_NOTE, bytesIn } from "./link.js";
-import { NO_TEXT, bytesOf, bytesOut, long, put, result, short, size, space, truth, u32, u64 } from "./module.js";
+import { NO_TEXT, bytesOf, long, put, result, short, size, truth, u32, u64 } from "./module.js";
 import { Shown } from "./overlay.js";
 import { Texts, terminalStep } from "./sides.js";
 
-const TOLD = ["idle", "busy", "stepped", "refused", "note", "answered", "unanswered", "ran", "lapsed"]; // enum sam_client_event of sulgrevad.h
+// enum sam_client_event of sulgrevad.h
+const TOLD = ["idle", "busy", "stepped", "refused", "note", "answered", "unanswered", "ran", "lapsed"];
 const WITHOUT_STEP = ["idle", "busy", "note"];
 const TOLD_PLACE = 8; // a result behind a sam_did
 const NO_PATH = new Uint8Array(0);
@@ -56,8 +57,7 @@ export class Client extends Clocked(Shown(Texts)) {
   }
 
   get note() {
-    make(this, "note", space(), BigInt(MOST_NOTE), result(0));
-    return bytesOut(u64(0)).slice();
+    return bytesBy(this, "note", MOST_NOTE);
   }
 
   replaceEach(tag, replacements) {

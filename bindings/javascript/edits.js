@@ -1,9 +1,9 @@
 /* Many edits by one call of a client: those that are handed out, and those that are made. */
-import { isFreed } from "./held.js";
-import { NO_TEXT, bytesOf, lend, long, numbersOut, put, result, space, u64 } from "./module.js";
+import { lendTo } from "./held.js";
+import { NO_TEXT, bytesOf, long, numbersOut, put, result, space, u64 } from "./module.js";
 import { SPLICES } from "./overlay.js";
 import { shownRune } from "./sides.js";
-import { Kind, Status, errorOf } from "./status.js";
+import { Kind } from "./status.js";
 
 const MOST_EDITS = 1024; // steps that one call makes
 const MOST_RUNES = 12_288; // that they bring
@@ -52,9 +52,7 @@ export function lendReplacements(side, replacements, use) {
   const words = replacements.flatMap(({ start, end }, at) => [long(start), long(end), runesIn(texts[at])]);
   words.forEach((word, at) => rows.setUint32(4 * at, word, true));
   const length = texts.reduce((sum, text) => sum + text.length, 0);
-  return lend([new Uint8Array(rows.buffer), ...texts], (places) => {
-    if (places === null) throw errorOf(isFreed(side) ? Status.NO_HANDLE : Status.NO_MEMORY);
-    const [first, second = first] = places;
-    return use(first, BigInt(replacements.length), second, BigInt(length));
-  });
+  return lendTo(side, [new Uint8Array(rows.buffer), ...texts], ([first, second = first]) =>
+    use(first, BigInt(replacements.length), second, BigInt(length)),
+  );
 }

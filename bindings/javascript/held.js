@@ -1,6 +1,6 @@
 /* The handle of the library that a host, a terminal, a link and a line each have, and the calls of it. */
 import * as module from "./module.js";
-import { call, lend, result, space } from "./module.js";
+import { bytesOut, call, lend, result, space, u64 } from "./module.js";
 import { Missing, Status, errorOf } from "./status.js";
 
 export const PREFIX = Symbol("prefix"); // the beginning of the names of its calls
@@ -49,10 +49,21 @@ export function makeOfText(side, name, words, text) {
 
 /** Makes a call that takes these words, the bytes' place and length, and then the words after them. */
 export function makeOfBytes(side, name, words, bytes, ...after) {
-  lend([bytes], (places) => {
+  lendTo(side, [bytes], ([place]) => make(side, name, ...words, place, BigInt(bytes.length), ...after));
+}
+
+/** Lends a call of a side these pieces of bytes: gives `use` their places. */
+export function lendTo(side, pieces, use) {
+  return lend(pieces, (places) => {
     if (places === null) throw errorOf(isFreed(side) ? Status.NO_HANDLE : Status.NO_MEMORY);
-    make(side, name, ...words, places[0], BigInt(bytes.length), ...after);
+    return use(places);
   });
+}
+
+/** Makes a call that takes these words and fills a room for so many bytes, and returns what it has put there. */
+export function bytesBy(side, name, room, ...words) {
+  make(side, name, ...words, space(), BigInt(room), result(0));
+  return bytesOut(u64(0)).slice();
 }
 
 /** Makes a call, and returns its first result, as `as` reads it. */

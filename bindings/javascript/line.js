@@ -1,7 +1,7 @@
 /* The terminal's end of a link, with the clock of its connections. */
-import { Held, PREFIX, ifAny, make, makeOfBytes } from "./held.js";
-import { MOST_BODY, MOST_NOTE, bytesIn, lendId } from "./link.js";
-import { PIECE, bytesOut, least, result, size, space, truth, u32, u64, u8 } from "./module.js";
+import { Held, PREFIX, bytesBy, ifAny, make, makeOfBytes, one } from "./held.js";
+import { Inward, Outward, bytesIn, lendId } from "./link.js";
+import { result, size, truth, u32, u64, u8 } from "./module.js";
 
 const MOST_WORDS = 65536; // bytes before the host's hello
 
@@ -10,7 +10,7 @@ export const Tick = Object.freeze({ NOTHING: 0, CONNECT: 1, DROP: 2, ASK: 3 });
 
 /** Adds to a class what line and client share: their connections, what comes on these, and how they stand. */
 export const Clocked = (Base) =>
-  class extends Base {
+  class extends Outward(Base) {
     static DOWN = 0;
     static CONNECTING = 1;
     static OPEN = 2;
@@ -22,20 +22,15 @@ export const Clocked = (Base) =>
     }
 
     tick(now) {
-      make(this, "tick", size(now), result(0));
-      return u32(0);
+      return one(this, "tick", u32, size(now));
     }
 
     dueIn(now) {
-      return ifAny(() => {
-        make(this, "due_in", size(now), result(0));
-        return u64(0);
-      });
+      return ifAny(() => one(this, "due_in", u64, size(now)));
     }
 
     connected(now) {
-      make(this, "connected", size(now), result(0));
-      return u64(0);
+      return one(this, "connected", u64, size(now));
     }
 
     notConnected(now) {
@@ -58,15 +53,6 @@ export const Clocked = (Base) =>
       makeOfBytes(this, "put_note", [], bytesIn(bytes), size(now));
     }
 
-    acknowledge() {
-      make(this, "acknowledge");
-    }
-
-    takeOut(attempt, most = PIECE) {
-      make(this, "take_out", size(attempt), space(), BigInt(least(most, PIECE)), result(0));
-      return bytesOut(u64(0)).slice();
-    }
-
     receive(attempt, bytes, now) {
       makeOfBytes(this, "receive", [size(attempt)], bytesIn(bytes), size(now));
     }
@@ -76,26 +62,27 @@ export const Clocked = (Base) =>
       return {
         silence: u64(0),
         roundTrip: u64(1),
-        failures: u64(2),
-        attempt: u64(3),
-        putCount: u64(4),
-        acknowledged: u64(5),
-        received: u64(6),
-        state: u32(7),
-        why: u32(7, 4),
-        isKnown: truth(8),
-        hasAll: u8(8, 1) !== 0,
+        overdueAfter: u64(2),
+        failures: u64(3),
+        attempt: u64(4),
+        putCount: u64(5),
+        acknowledged: u64(6),
+        received: u64(7),
+        state: u32(8),
+        why: u32(8, 4),
+        isKnown: truth(9),
+        isBroken: u8(9, 1) !== 0,
+        hasAll: u8(9, 2) !== 0,
       };
     }
 
     get words() {
-      make(this, "words", space(), BigInt(MOST_WORDS), result(0));
-      return bytesOut(u64(0)).slice();
+      return bytesBy(this, "words", MOST_WORDS);
     }
   };
 
 /** The terminal's end of a link, which also says when to connect, to ask and to give up. */
-export class Line extends Clocked(Held) {
+export class Line extends Inward(Clocked(Held)) {
   get [PREFIX]() {
     return "sam_line";
   }
@@ -106,17 +93,5 @@ export class Line extends Clocked(Held) {
 
   ask(now) {
     make(this, "ask", size(now));
-  }
-
-  takeIn(most = MOST_BODY) {
-    make(this, "take_in", space(), BigInt(least(most, MOST_BODY)), result(0));
-    return bytesOut(u64(0)).slice();
-  }
-
-  nextNote() {
-    return ifAny(() => {
-      make(this, "next_note", space(), BigInt(MOST_NOTE), result(0));
-      return bytesOut(u64(0)).slice();
-    });
   }
 }

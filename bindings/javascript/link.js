@@ -1,12 +1,12 @@
 /* One end of a link, and hellos. */
-import { Held, PREFIX, ifAny, isFreed, make, makeOfBytes, one } from "./held.js";
-import { PIECE, bytesOut, call, least, lend, long, part, result, size, sizesAt, space, u32, u64 } from "./module.js";
+import { Held, PREFIX, bytesBy, ifAny, lendTo, make, makeOfBytes, one } from "./held.js";
+import { PIECE, call, least, lend, long, part, result, size, sizesAt, space, u32, u64 } from "./module.js";
 import { Status, errorOf } from "./status.js";
 
 const ID_BYTES = 16;
 const HELLO_BYTES = 42;
 export const MOST_NOTE = 4096;
-export const MOST_BODY = 4096; // bytes that one packet has for the program
+const MOST_BODY = 4096; // bytes that one packet has for the program
 const MOST_PLACES = 256; // of bytes in a piece, that are handed out at once
 const PLACE_SIZE = 16; // bytes of a place: two numbers of 64 bits
 
@@ -60,8 +60,32 @@ export function writeRefusal(status, bytes) {
   return part(result(0), HELLO_BYTES).slice();
 }
 
+/** Adds to a class what link, line and client share: what goes out on their connections. */
+export const Outward = (Base) =>
+  class extends Base {
+    acknowledge() {
+      make(this, "acknowledge");
+    }
+
+    takeOut(attempt, most = PIECE) {
+      return bytesBy(this, "take_out", least(most, PIECE), size(attempt));
+    }
+  };
+
+/** Adds to a class what link and line share: what comes in by them. */
+export const Inward = (Base) =>
+  class extends Base {
+    takeIn(most = MOST_BODY) {
+      return bytesBy(this, "take_in", least(most, MOST_BODY));
+    }
+
+    nextNote() {
+      return ifAny(() => bytesBy(this, "next_note", MOST_NOTE));
+    }
+  };
+
 /** One end of a link. */
-export class Link extends Held {
+export class Link extends Inward(Outward(Held)) {
   static TERMINAL = 0;
   static HOST = 1;
   static DOWN = 0;
@@ -104,48 +128,24 @@ export class Link extends Held {
     make(this, "ask");
   }
 
-  acknowledge() {
-    make(this, "acknowledge");
-  }
-
-  takeOut(attempt, most = PIECE) {
-    make(this, "take_out", size(attempt), space(), BigInt(least(most, PIECE)), result(0));
-    return bytesOut(u64(0)).slice();
-  }
-
   feed(attempt, bytes) {
     makeOfBytes(this, "feed", [size(attempt)], bytesIn(bytes));
   }
 
   feedInto(attempt, bytes, most = PIECE) {
     const room = new Uint8Array(least(most, PIECE));
-    return lend([bytesIn(bytes), room], (places) => {
-      if (places === null) throw errorOf(isFreed(this) ? Status.NO_HANDLE : Status.NO_MEMORY);
-      make(this, "feed_into", size(attempt), places[0], BigInt(bytes.length), places[1], BigInt(room.length), result(0));
-      return part(places[1], u64(0)).slice();
+    return lendTo(this, [bytesIn(bytes), room], ([from, into]) => {
+      make(this, "feed_into", size(attempt), from, BigInt(bytes.length), into, BigInt(room.length), result(0));
+      return part(into, u64(0)).slice();
     });
   }
 
   feedPlaces(attempt, bytes, most = MOST_PLACES) {
     const room = new Uint8Array(PLACE_SIZE * least(most, MOST_PLACES));
-    return lend([room, bytesIn(bytes)], (places) => {
-      if (places === null) throw errorOf(isFreed(this) ? Status.NO_HANDLE : Status.NO_MEMORY);
-      const [into, from] = places;
+    return lendTo(this, [room, bytesIn(bytes)], ([into, from]) => {
       make(this, "feed_places", size(attempt), from, BigInt(bytes.length), into, BigInt(room.length / PLACE_SIZE), result(0));
       const found = sizesAt(into, 2 * u64(0));
       return Array.from({ length: found.length / 2 }, (_, at) => ({ start: found[2 * at], len: found[2 * at + 1] }));
-    });
-  }
-
-  takeIn(most = MOST_BODY) {
-    make(this, "take_in", space(), BigInt(least(most, MOST_BODY)), result(0));
-    return bytesOut(u64(0)).slice();
-  }
-
-  nextNote() {
-    return ifAny(() => {
-      make(this, "next_note", space(), BigInt(MOST_NOTE), result(0));
-      return bytesOut(u64(0)).slice();
     });
   }
 

@@ -1,6 +1,6 @@
 /* A terminal whose user never waits: the edits that wait are shown over its texts. */
-import { PREFIX, ifAny, isFreed, make, makeOfText, one } from "./held.js";
-import { NO_TEXT, bytesOf, lend, long, part, result, short, textOf, u16, u32, u64, withRoom } from "./module.js";
+import { PREFIX, ifAny, lendTo, make, makeOfText, one } from "./held.js";
+import { NO_TEXT, bytesOf, long, part, result, short, textOf, u16, u32, u64, withRoom } from "./module.js";
 import { Screened, Stepping, Streams } from "./sides.js";
 import { Status, errorOf } from "./status.js";
 
@@ -45,10 +45,7 @@ function makeOfEvent(side, name, kind, { tag = 0, start = 0, number = 0, version
   record.setUint16(12, short(tag), true);
   record.setUint16(14, short(version), true);
   const bytes = bytesOf(text) ?? NO_TEXT;
-  lend([new Uint8Array(record.buffer), bytes], (places) => {
-    if (places === null) throw errorOf(isFreed(side) ? Status.NO_HANDLE : Status.NO_MEMORY);
-    make(side, name, ...places, BigInt(bytes.length), ...results);
-  });
+  lendTo(side, [new Uint8Array(record.buffer), bytes], (places) => make(side, name, ...places, BigInt(bytes.length), ...results));
 }
 
 /** Adds to a class what overlay and client share: the shown texts, how they change, and what is asked for beside edits. */

@@ -456,7 +456,7 @@ export class Session extends EventTarget {
     if (this.isOver) return;
     if (error instanceof SessionOver || error instanceof SessionLost) this.#why = error;
     else if (error instanceof SamError) this.#why = new SessionLost(error.code);
-    else this.#why = new SessionOver("no connection can be made", { cause: error });
+    else this.#why = new SessionOver(`the session can't go on: ${error.message}`, { cause: error });
     clearTimeout(this.#timer);
     this.#wire.drop();
     this.#answers.rejectAll(this.#why);

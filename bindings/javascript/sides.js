@@ -1,7 +1,7 @@
 /* The two sides: what they share with each other, with overlay and client, the host, and the terminal. */
-import { Held, PREFIX, ifAny, isFreed, make, makeOfBytes, makeOfText, one } from "./held.js";
+import { Held, PREFIX, ifAny, isFreed, lendTo, make, makeOfBytes, makeOfText, one } from "./held.js";
 import * as module from "./module.js";
-import { PIECE, least, lend, long, put, result, short, size, space, truth, u16, u32, u64, u8 } from "./module.js";
+import { PIECE, least, long, put, result, short, size, space, truth, u16, u32, u64, u8 } from "./module.js";
 import { Status, errorOf } from "./status.js";
 
 const MOST_IN_NAME = 256; // bytes of the longest name
@@ -211,8 +211,7 @@ export class Host extends Side {
   addFile(name, text = "") {
     const pieces = [module.bytesOf(name), module.bytesOf(text)];
     if (pieces.includes(null)) return this.#refuseText(pieces);
-    return lend(pieces, (places) => {
-      if (places === null) throw errorOf(isFreed(this) ? Status.NO_HANDLE : Status.NO_MEMORY);
+    return lendTo(this, pieces, (places) => {
       const words = pieces.flatMap((piece, at) => [places[at], BigInt(piece.length)]);
       return one(this, "add_file", u16, ...words);
     });

@@ -808,12 +808,14 @@ export declare const Tick: {
 
 /** The state, the counts and the times of a line. `state` is one of Line.DOWN to Line.LOST. `why` is the status of the host's reason if the
  * line is lost, else Status.OK. Times are in milliseconds: `silence` is that for which nothing has come, though something was due, and
- * `roundTrip` that of the last question. Counts are in bytes, but for `failures`, the connections that failed one after another, up to 6,
- * and `attempt`, the number of the newest one. `isKnown` says whether a host has welcomed the line, `hasAll` whether the host has
- * acknowledged all that was put. */
+ * `roundTrip` that of the last question. After `overdueAfter` of silence the user is to know that an answer is overdue. Counts are in
+ * bytes, but for `failures`, the connections that failed one after another, up to 6, and `attempt`, the number of the newest one.
+ * `isKnown` says whether a host has welcomed the line, `isBroken` whether there is no connection, though there was one, or one has failed,
+ * and `hasAll` whether the host has acknowledged all that was put. */
 export type LineDetails = {
   silence: number;
   roundTrip: number;
+  overdueAfter: number;
   failures: number;
   attempt: number;
   putCount: number;
@@ -822,6 +824,7 @@ export type LineDetails = {
   state: number;
   why: number;
   isKnown: boolean;
+  isBroken: boolean;
   hasAll: boolean;
 };
 
@@ -1141,8 +1144,8 @@ export declare class Session extends EventTarget {
    * NoMemory, SessionOver and SessionLost. */
   write(tag: number): Promise<Note>;
   /** Runs a command line on an open file as it is shown now, and returns what the line printed, at most 65,536 runes of it: one that is
-   * wrong prints `?` and why. docs/reference/COMMANDS.md has the lines. Rejects with what `run` of a client throws, with EditRefused for one
-   * for which the command file has no room, and with SessionOver and SessionLost. */
+   * wrong prints `?` and why. docs/reference/COMMANDS.md has the lines. Rejects with what `run` of a client throws, with EditRefused for
+   * one for which the command file has no room, and with SessionOver and SessionLost. */
   run(tag: number, line: string): Promise<string>;
   /** Closes a document, after all edits that were made before: what is not written is lost. */
   closeDocument(document: Document): Promise<void>;
@@ -1150,7 +1153,8 @@ export declare class Session extends EventTarget {
    * answer within 2 seconds another connection is made. One that is to be made is tried after 1 second at most. */
   addressChanged(): void;
   /** Ends the session at the host, after all that was asked for before, command lines with their answers, and returns once the host has
-   * ended it. What is not written is lost, unless the host saves it aside. Rejects with SessionLost if it is lost before, and with what `request` rejects. */
+   * ended it. What is not written is lost, unless the host saves it aside. Rejects with SessionLost if it is lost before, and with what
+   * `request` rejects. */
   close(): Promise<void>;
   /** Ends this end alone, at once: the session stays at the host, as after a crash of this program. */
   leave(): void;
@@ -1242,6 +1246,7 @@ export declare const NoteCode: {
   readonly CUT: 21;
   readonly UNNAMED: 22;
   readonly FAILED: 23;
+  readonly UNREADABLE: 24;
 };
 // Up to here by tools/session_messages.
 

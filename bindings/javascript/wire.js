@@ -103,7 +103,7 @@ export class Wire {
    * cut them off where a program between here and the host holds them. */
   release() {
     const socket = this.#forget();
-    if (socket !== null) setTimeout(() => socket.close(), TIME_TO_GO);
+    if (socket !== null) setTimeout(() => socket.close(), TIME_TO_GO).unref?.(); // Node doesn't wait for that alone
   }
 
   #close() {

@@ -10,6 +10,13 @@ const ENCODER = new TextEncoder();
 
 addEventListener("hashchange", () => location.reload()); // another address was opened here
 
+// Why the page doesn't come, as in a browser whose WebAssembly is too old, stands where its status would.
+addEventListener("error", ({ error, message }) => {
+  if (!globalThis.sulgrevad) document.getElementById("status").textContent = `this page can't be shown: ${error?.message ?? message}`;
+});
+
+if (!isSecureContext) throw new Error("its address has to begin with https://, or name this machine as localhost or 127.0.0.1");
+
 function digits(bytes) {
   return [...new Uint8Array(bytes)].map((byte) => byte.toString(16).padStart(2, "0")).join("");
 }
@@ -24,19 +31,17 @@ async function proof(...words) {
 /** Where this browser keeps what the session of this address may be named: a word that doesn't tell the token. */
 const NAMES_KEY = `session ${(await proof("place")).slice(0, 32)}`;
 
-/** The names that the session of this address may have, the likeliest first; none where there is none. */
+/** The names that the session of this address may have, the likeliest first: that of this tab, which another tab may have begun beside. */
 function sessionNames() {
-  const names = localStorage.getItem(NAMES_KEY) || sessionStorage.getItem(NAMES_KEY) || "";
-  return names.split(" ").filter((name) => name !== "");
+  const names = [sessionStorage, localStorage].flatMap((storage) => (storage.getItem(NAMES_KEY) ?? "").split(" "));
+  return [...new Set(names)].filter((name) => name !== "");
 }
 
-/** Keeps them: where copies have taken all the room, for this tab alone; where that has none either, not at all. */
+/** Keeps them for this tab, and for the next one that opens this address, as far as the browser has room. */
 export function keepNames(...names) {
-  sessionStorage.removeItem(NAMES_KEY);
-  for (const storage of [localStorage, sessionStorage]) {
+  for (const storage of [sessionStorage, localStorage]) {
     try {
       storage.setItem(NAMES_KEY, names.join(" "));
-      return;
     } catch {
       // the other one may have room
     }
@@ -148,10 +153,8 @@ export class Connection extends Teller {
   }
 }
 
-// Why the page doesn't come, as in a browser whose WebAssembly is too old, stands where its status would.
-addEventListener("error", ({ error, message }) => {
-  if (!globalThis.sulgrevad) document.getElementById("status").textContent = `this page can't be shown: ${error?.message ?? message}`;
-});
+// A page that the browser only prepares, for who has typed the beginning of its address, leaves the session to the one that has it.
+if (document.prerendering) await new Promise((shown) => document.addEventListener("prerenderingchange", shown, { once: true }));
 
 const names = sessionNames();
 const id = newId();

@@ -1,5 +1,5 @@
 /* The editor: the session, what CodeMirror shows of its files, and what the user does. */
-import { Client, NoteCode, NoteKind, RequestRefused, SamError, Status } from "./sulgrevad/sulgrevad.js";
+import { NoteCode, NoteKind, RequestRefused, SamError, Status } from "./sulgrevad/sulgrevad.js";
 import { Input } from "./input.js";
 import { runesOf } from "./shown_text.js";
 import { Undo } from "./undo.js";
@@ -9,11 +9,11 @@ import { AGAIN, READ_AFTER, Waiting } from "./key_queue.js";
 const COMMAND = 0; // the tag of the command file
 const ALL_TAGS = 65_536; // of a session
 const REACH = 4096; // runes that are loaded for a key that goes by text which isn't
-const REPLACING = [NoteCode.CHANGED_SINCE, NoteCode.EXISTS_ALREADY]; // why a write failed that would have replaced another program's text
+// Why a write failed that would have replaced another program's text.
+const REPLACING = [NoteCode.CHANGED_SINCE, NoteCode.EXISTS_ALREADY, NoteCode.UNREADABLE];
 
 // Milliseconds.
 const AT_REST = 1000; // after the last key
-const LATE_AFTER = 1000; // and two round trips: then an answer counts as late
 const TICK = 1000; // until it is seen how the line is, while something is due
 
 const WHY = {
@@ -100,20 +100,23 @@ export class Editor {
 
   /** Whether there is no line, though there was one. */
   get isBroken() {
-    const { state, isKnown, failures } = this.session.line;
-    return ![Client.OPEN, Client.LATE].includes(state) && (isKnown || failures > 0);
+    return this.session.line.isBroken;
   }
 
   /** Whether there is no line, or an answer is late. */
   get isLate() {
     if (this.session === null || this.isOver) return false;
-    const { silence, roundTrip } = this.session.line;
-    return this.isBroken || silence >= LATE_AFTER + 2 * roundTrip;
+    const { silence, overdueAfter, isBroken } = this.session.line;
+    return isBroken || silence >= overdueAfter;
   }
 
   /** Whether something that was done here may not be at the host yet. */
   get lacks() {
-    return this.waiting.count > 0 || this.#isWriteHeld || !this.session.hasAll;
+    return this.#hasWaitingKeys || this.#isWriteHeld || !this.session.hasAll;
+  }
+
+  get #hasWaitingKeys() {
+    return this.waiting.count > 0 || this.page.opening.hasWaitingKeys;
   }
 
   /** Whether a write is to follow one that is not answered. */
@@ -124,7 +127,7 @@ export class Editor {
   /** Whether that may be a change of the user's, a write of one, or a key that waits. */
   get lacksChanges() {
     this.#hasChanged &&= this.lacks;
-    return this.#hasChanged || this.waiting.count > 0;
+    return this.#hasChanged || this.#hasWaitingKeys;
   }
 
   /** Whether the user rests, and nothing is under way. */
@@ -206,12 +209,15 @@ export class Editor {
   // ---- What the user does
 
   /** A change of the user's that CodeMirror shows already is made in the session. */
-  take({ from, removed, text, origin }) {
-    const [gone, came] = [removed.join("\n"), text.join("\n")];
+  take(change) {
     const { active: view } = this;
-    const { start, end } = view.take(from, gone, came);
-    if (this.#edit(view, start, end, came)) this.#undoOf(view.tag).note(kindOf(origin), start, gone, came);
-    else view.renew(start, end);
+    const { start, end, gone, came } = view.take(change);
+    if (this.#edit(view, start, end, came)) {
+      this.#undoOf(view.tag).note(kindOf(change.origin), start, gone, came);
+    } else {
+      view.renew(start, end);
+      this.input.putOffComposition();
+    }
     this.#wake(0);
   }
 

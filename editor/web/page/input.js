@@ -58,6 +58,7 @@ function newlineAsAbove(cm) {
 
 export class Input {
   isComposing = false;
+  #isClicking = false; // a button of the mouse is being met
   #composesAside = false; // what is being composed waits, until it is whole
   #clip = null; // what was copied or cut last while keys waited: its text once it is known, and whether the clipboard has it
 
@@ -69,6 +70,7 @@ export class Input {
     cm.on("beforeChange", (_, change) => this.#meetChange(change));
     cm.on("change", (_, change) => change.origin !== OURS && editor.take(change));
     cm.on("beforeSelectionChange", (_, selection) => this.#meetSelection(selection));
+    for (const name of ["mousedown", "contextmenu"]) cm.on(name, () => this.#meetButton());
     for (const name of ["copy", "cut"]) cm.on(name, (_, event) => this.#meetCopy(event, name === "cut"));
     cm.on("paste", (_, event) => this.#meetPaste(event));
     cm.on("keydown", () => editor.noteKey());
@@ -95,14 +97,16 @@ export class Input {
     editor.waiting.press({ name: nameOf(command), isReady, isAtCaret, act: () => this.#run(command, isExtending) });
   }
 
-  /** Does what a key means that was pressed before the text had the keyboard. */
+  /** Does what a key means that was pressed where the text didn't have the keyboard. Returns whether it means something. */
   replay(event) {
     const { CodeMirror, cm } = this;
     const run = (act) => {
       act(cm);
       return true;
     };
-    if (CodeMirror.lookupKey(CodeMirror.keyName(event), "sulgrevad", run) !== "handled" && isText(event)) this.type(event.key, "+input");
+    if (CodeMirror.lookupKey(CodeMirror.keyName(event), "sulgrevad", run) === "handled") return true;
+    if (isText(event)) this.type(event.key, "+input");
+    return isText(event);
   }
 
   /** Runs a command as if Shift were held down as it was when its key was pressed, whatever is held down by now. */
@@ -145,7 +149,7 @@ export class Input {
       return;
     }
     const { from, to } = change;
-    if (change.origin === "paste") change.update(from, to, change.text.map((line) => line.replace(/\r$/, "")));
+    change.update(from, to, change.text.map((line) => line.replace(/\r+$/, ""))); // they end as the lines do where they come
     const isOpen = editor.waiting.isOpenTo && !this.#composesAside;
     if (isOpen && editor.isLoaded(from, to)) return;
     change.cancel();
@@ -178,12 +182,23 @@ export class Input {
     });
   }
 
+  /** A step of what is composed was refused. CodeMirror counts it as shown, and would take text before the caret out for it. */
+  putOffComposition() {
+    this.#composesAside ||= this.isComposing;
+  }
+
   // ---- The mouse
+
+  /** Of other buttons than the first CodeMirror doesn't say that a selection comes by them. */
+  #meetButton() {
+    this.#isClicking = true;
+    queueMicrotask(() => (this.#isClicking = false));
+  }
 
   /** A place that is clicked while keys wait is gone to after them: as it stands in the text then. */
   #meetSelection(selection) {
     const { cm, editor } = this;
-    if (selection.origin !== "*mouse" || editor.waiting.isOpenTo || editor.waiting.count === 0) return;
+    if (!(this.#isClicking || selection.origin === "*mouse") || editor.waiting.isOpenTo || editor.waiting.count === 0) return;
     const [{ anchor, head }] = selection.ranges;
     const marks = [anchor, head].map((position) => cm.setBookmark(position));
     const { doc } = cm;

@@ -3,41 +3,59 @@
 import { NoteCode, NoteKind } from "./sulgrevad/sulgrevad.js";
 
 const GAP = "\u2591\n"; // stands in a copy for text that isn't loaded
-const FRONT = "sulgrevad ";
+const COPIES = "copies"; // the browser's database, and its one store
 const TYPED = "typed.txt"; // the name of a copy of what was typed, and is in no file
-const SINCE = " since"; // behind the key of a copy: how its text has changed since
+const EARLIER = "sulgrevad "; // begins the keys of copies that earlier versions of the page have put in localStorage
+const SINCE = " since"; // behind such a key: how the text has changed since
 const OF_TEXTS = [NoteKind.SAVED, NoteKind.NOT_SAVED, NoteKind.ASIDE, NoteKind.LOST];
 
-/** Which stretch of a text has to give way to which other one, so that it becomes another. */
-function difference(text, other) {
-  const most = Math.min(text.length, other.length);
-  let [start, behind] = [0, 0];
-  while (start < most && text.charCodeAt(start) === other.charCodeAt(start)) start++;
-  while (behind < most - start && text.at(-1 - behind) === other.at(-1 - behind)) behind++;
-  return { start, end: text.length - behind, came: other.slice(start, other.length - behind) };
+function opened() {
+  return new Promise((resolve, reject) => {
+    const request = indexedDB.open(COPIES, 1);
+    request.onupgradeneeded = () => request.result.createObjectStore(COPIES, { keyPath: "key" });
+    request.onsuccess = () => resolve(request.result);
+    request.onerror = () => reject(request.error);
+  });
 }
 
-/** Returns a copy, as it was put last. */
-function read(key) {
-  const copy = JSON.parse(localStorage.getItem(key));
-  const since = JSON.parse(localStorage.getItem(key + SINCE));
-  if (since?.of !== copy.when) return { key, ...copy };
-  const { start, end, came, when } = since;
-  return { key, name: copy.name, when, text: copy.text.slice(0, start) + came + copy.text.slice(end) };
+/** Returns a request to the store of a database, once it is answered, and on the disk. */
+function answered(database, mode, ask) {
+  return new Promise((resolve, reject) => {
+    const transaction = database.transaction(COPIES, mode, { durability: "strict" });
+    const request = ask(transaction.objectStore(COPIES));
+    transaction.oncomplete = () => resolve(request);
+    transaction.onabort = () => reject(transaction.error);
+    if (mode === "readwrite") transaction.commit(); // so that it comes to its end though the page goes
+  });
+}
+
+/** A copy that an earlier version of the page has left; null where the key has none. */
+function earlier(key) {
+  try {
+    const copy = { ...JSON.parse(localStorage.getItem(key)), key };
+    const since = JSON.parse(localStorage.getItem(key + SINCE));
+    if (since?.of === copy.when) {
+      const { start, end, came, when } = since;
+      Object.assign(copy, { when, text: copy.text.slice(0, start) + came + copy.text.slice(end) });
+    }
+    return typeof copy.name === "string" && typeof copy.text === "string" ? copy : null;
+  } catch {
+    return null;
+  }
 }
 
 export class Copies {
-  #kept = new Map(); // copies that this page makes as long as they are due: their texts by their keys
-  #whole = new Map(); // those of them that stand in the browser as a whole, by their keys
-  #refused = new Set(); // keys of copies for which the browser had no room
+  #database = opened();
+  #due = new Map(); // copies that are to be in the browser, by their keys; one `isKept` once it is
   #asideCount = 0; // texts that were set aside
   #unsaved = new Set(); // files whose text the host could save nowhere
+  #putting = 0; // copies that the disk is still to take
   isLast = false; // the host is gone, or could save some texts nowhere: copies of all changed ones are made, and stay
 
   /** The keys of this page begin with a word of its own: what another page keeps of the same file is another text. */
   constructor(editor) {
     this.editor = editor;
-    this.own = `${FRONT}${crypto.randomUUID()} `;
+    this.own = `${crypto.randomUUID()} `;
   }
 
   /** A message of the host. It may tell that the text of a file is saved, in the file or beside it; or that it is nowhere. */
@@ -50,19 +68,32 @@ export class Copies {
   /** Keeps what was typed and is in no file, until the user drops it. Returns the copy. */
   setAside(text) {
     this.#asideCount += 1;
-    const copy = { key: `${this.own}aside ${this.#asideCount}`, name: TYPED, when: Date.now(), text };
+    const copy = { key: `${this.own}aside ${this.#asideCount}`, name: TYPED, when: Date.now(), text, isAside: true };
+    this.#due.set(copy.key, copy);
     this.#put(copy);
     return copy;
   }
 
-  /** Whether the browser had no room for a copy that is due. */
-  get isRefused() {
-    return this.#refused.size > 0;
+  /** Whether the browser lacks a copy that is due. */
+  get isLacking() {
+    return [...this.#due.values()].some(({ isKept }) => !isKept);
+  }
+
+  /** Keeps, as the clock does: not before the disk has what was put last. More and more would wait before a slow one. */
+  keepAgain() {
+    if (this.#putting === 0) this.keep();
   }
 
   /** Makes copies of all changed texts, and of what was typed and waits, if the host may lack something; else of those alone that it could
    * save nowhere. Others of this page go. */
   keep() {
+    const copies = this.#ofNow();
+    for (const due of this.#due.values()) if (!due.isAside && !copies.some(({ key }) => key === due.key)) this.drop(due);
+    for (const copy of copies) if (copy.text !== this.#due.get(copy.key)?.text) this.#due.set(copy.key, copy);
+    for (const copy of this.#due.values()) if (!copy.isKept) this.#put(copy);
+  }
+
+  #ofNow() {
     const { editor } = this;
     const isOfAll = this.isLast || (editor.session !== null && editor.lacksChanges);
     const [when, copies] = [Date.now(), []];
@@ -73,41 +104,39 @@ export class Copies {
     }
     const { typed } = editor.waiting;
     if (isOfAll && typed !== "") copies.push({ key: `${this.own}typed`, name: TYPED, when, text: typed });
-    const before = this.#kept;
-    this.#kept = new Map(copies.map(({ key, text }) => [key, text]));
-    for (const copy of copies) if (copy.text !== before.get(copy.key) || this.#refused.has(copy.key)) this.#put(copy);
-    for (const key of before.keys()) if (!this.#kept.has(key)) this.drop({ key });
+    return copies;
   }
 
-  /** Puts a copy in the place of the one before: as a whole once, and then what has changed since. Browsers put no more than so many bytes
-   * an hour on the disk: whole copies of a long text would come there minutes later, and a browser that is killed loses them. */
-  #put({ key, ...copy }) {
-    const whole = key in localStorage ? this.#whole.get(key) : undefined;
-    const change = whole && difference(whole.text, copy.text);
+  /** Puts a copy in the place of the one before. */
+  async #put(copy) {
+    this.#putting += 1;
     try {
-      if (change && change.came.length <= whole.text.length / 2) {
-        localStorage.setItem(key + SINCE, JSON.stringify({ of: whole.when, when: copy.when, ...change }));
-      } else {
-        localStorage.setItem(key, JSON.stringify(copy));
-        this.#whole.set(key, copy);
-      }
-      this.#refused.delete(key);
-    } catch {
-      this.#refused.add(key);
-      this.editor.say("this browser has no room for a copy of what the host may lack");
+      await this.#ask("readwrite", (store) => store.put(copy));
+      copy.isKept = true;
+    } catch ({ name }) {
+      if (name !== "QuotaExceededError") this.#database = opened(); // it is closed where the user has the browser forget all
+      this.editor.say("this browser keeps no copy of what the host may lack");
+    } finally {
+      this.#putting -= 1;
     }
   }
 
-  /** The copies that other pages left, those of other sessions among them, oldest first: of each its name, when it was made, and its text.
-   * They stay until the user drops them. */
-  get left() {
-    const keys = Array.from({ length: localStorage.length }, (_, at) => localStorage.key(at));
-    const left = keys.filter((key) => key.startsWith(FRONT) && !key.startsWith(this.own) && !key.endsWith(SINCE));
-    return left.map(read).sort((one, other) => one.when - other.when);
+  async #ask(mode, ask) {
+    return answered(await this.#database, mode, ask);
+  }
+
+  /** The copies that other pages left, those of other sessions and earlier versions among them, oldest first: of each its name, when it was
+   * made, and its text. They stay until the user drops them. */
+  async left() {
+    const { result: copies } = await this.#ask("readonly", (store) => store.getAll()).catch(() => ({ result: [] }));
+    const keys = Object.keys(localStorage).filter((key) => key.startsWith(EARLIER));
+    const all = [...copies.filter(({ key }) => !key.startsWith(this.own)), ...keys.map(earlier).filter((copy) => copy !== null)];
+    return all.sort((one, other) => one.when - other.when);
   }
 
   drop({ key }) {
-    for (const part of [key, key + SINCE]) localStorage.removeItem(part);
-    this.#refused.delete(key);
+    this.#due.delete(key);
+    for (const item of [key, key + SINCE]) localStorage.removeItem(item);
+    this.#ask("readwrite", (store) => store.delete(key)).catch(() => {}); // what stays is offered again
   }
 }

@@ -24,6 +24,7 @@ const LOST = {
 };
 const COPY_AFTER = 2000; // milliseconds between two looks whether copies are due
 const ASKING = ["open", "find"]; // actions that go on with a field of their own
+const WITH_KEYS = "textarea, input, button, a"; // elements that have the keyboard for keys of their own
 const IN_FIELDS = /-[ZY]$|^Esc$/; // keys that a field has a meaning of its own for
 
 /** Why a session is over, in words. */
@@ -52,7 +53,6 @@ class Page {
       undoDepth: 0,
       mode: null,
       configureMouse: (_, repeat) => ({ addNew: false, unit: { single: "char", double: "word", triple: "line" }[repeat] }),
-      specialCharPlaceholder: (sign) => (sign === "\r" ? document.createElement("span") : CodeMirror.defaults.specialCharPlaceholder(sign)),
     };
     this.cm = CodeMirror(part("text"), options);
     this.keys = this.#keys();
@@ -61,6 +61,7 @@ class Page {
     this.opening = new Opening(this.editor, this.find, part("opening"), part("path"), part("paths"));
     this.copies = new Copies(this.editor);
     document.addEventListener("click", ({ target }) => this.#meetClick(target));
+    for (const box of [part("finding"), part("opening")]) box.addEventListener("mousedown", (event) => this.#meetClickBeside(event));
     document.addEventListener("keydown", (event) => this.#meetKey(event));
     addEventListener("beforeunload", (event) => this.#meetLeaving(event));
     document.addEventListener("visibilitychange", () => document.hidden && this.copies.keep()); // it may be the last thing heard
@@ -68,7 +69,7 @@ class Page {
     new ResizeObserver(() => this.#meetSize()).observe(part("text"));
     addEventListener("online", () => this.editor.session?.addressChanged());
     addEventListener("focus", () => this.#meetFocus());
-    setInterval(() => this.copies.keep(), COPY_AFTER);
+    setInterval(() => this.copies.keepAgain(), COPY_AFTER);
   }
 
   /** The text has more room now, or less: the caret is to be seen where it was. */
@@ -99,10 +100,14 @@ class Page {
       told: (words) => this.tell(words),
       over: (why) => this.#meetEnd(why),
     });
-    for (const copy of this.copies.left) {
+    this.#offerLeft();
+    this.cm.focus();
+  }
+
+  async #offerLeft() {
+    for (const copy of await this.copies.left()) {
       this.#offer(copy, `${copy.name}: the host may lack what this browser kept of it at ${new Date(copy.when).toLocaleString()}`);
     }
-    this.cm.focus();
   }
 
   /** A message of the host: what became of a text, say, whose words are shown unless all went well. */
@@ -132,32 +137,50 @@ class Page {
     if (session?.line.state === Client.DOWN) session.addressChanged();
   }
 
-  /** Asks before the page goes where the host may lack something that it can still get, or where no copy of a text could be made. */
+  /** Asks before the page goes where the host may lack something that it can still get, or where the browser has no copy that is due. */
   #meetLeaving(event) {
     const { editor, copies } = this;
     copies.keep();
     const isLacking = !editor.isOver && editor.session !== null && editor.lacksChanges;
-    if (!isLacking && !copies.isRefused) return;
+    if (!isLacking && !copies.isLacking) return;
     event.preventDefault();
     event.returnValue = ""; // for browsers that go by this
   }
 
   // ---- What the user does
 
-  /** A button does its part, and gives the keyboard back to the text. */
+  /** A button, or a link, does its part, and gives the keyboard back to the text. */
   #meetClick(target) {
-    if (target.tagName !== "BUTTON") return;
+    if (!target.matches("button, a")) return;
     const { action } = target.dataset;
     this.#do(action);
     if (!ASKING.includes(action)) this.cm.focus();
   }
 
+  /** A click beside a field leaves it the keyboard. */
+  #meetClickBeside(event) {
+    if (event.target.tagName !== "INPUT") event.preventDefault();
+  }
+
   /** A key that the text doesn't have means the same as there; but a field undoes by itself. */
   #meetKey(event) {
+    if (!event.target.matches(WITH_KEYS)) {
+      this.#meetLooseKey(event);
+      return;
+    }
     const key = CodeMirror.keyName(event);
     if (event.defaultPrevented || !(key in this.keys) || (event.target.tagName === "INPUT" && IN_FIELDS.test(key))) return;
     event.preventDefault();
     this.keys[key]();
+  }
+
+  /** A key that nothing has, as behind a click beside the text or on a shade, is one of the text. What the browser does by it, a paste say,
+   * it does there; but it copies words that are selected elsewhere. */
+  #meetLooseKey(event) {
+    const isDone = this.editor.input.replay(event);
+    if (isDone) event.preventDefault();
+    const isInField = document.activeElement.matches(WITH_KEYS); // which the key has shown
+    if (!isInField && (isDone || getSelection().isCollapsed)) this.cm.focus();
   }
 
   #keys() {
@@ -239,7 +262,8 @@ class Page {
     words.textContent = line.slice(0, MOST_IN_LINE);
     item.append(words, ...buttons, this.#button("Dismiss", () => item.remove()));
     part("told").append(item);
-    while (part("told").children.length > MOST_TOLD) part("told").firstChild.remove();
+    const plain = part("told").querySelectorAll("li:not(:has(a))"); // a text that is offered stays
+    if (plain.length > MOST_TOLD) plain[0].remove();
   }
 
   #button(text, act) {
@@ -268,6 +292,7 @@ class Page {
 
   /** The session can't go on here. */
   lose(why) {
+    this.opening.giveUp();
     this.copies.keep();
     part("why").textContent = `${why}. What is loaded can still be read and copied.`;
     part("over").hidden = false;

@@ -26,7 +26,6 @@ export class Opening {
     field.addEventListener("keydown", (event) => this.#meetKey(event));
     field.addEventListener("paste", (event) => this.#meetPaste(event));
     field.addEventListener("blur", () => this.#meetBlur());
-    list.addEventListener("mousedown", (event) => event.preventDefault()); // the field keeps the keyboard
     list.addEventListener("click", ({ target }) => this.#meetClick([...list.children].indexOf(target)));
   }
 
@@ -43,6 +42,11 @@ export class Opening {
   }
 
   // ---- Keys
+
+  /** Whether keys wait for names. */
+  get hasWaitingKeys() {
+    return this.#held.length > 0;
+  }
 
   #meetKey(event) {
     if (event.isComposing) return;
@@ -84,16 +88,16 @@ export class Opening {
   /** The keyboard goes elsewhere, and not by a key that waited: the others are not meant for there. Where the whole window loses it, the
    * field stays the active one. */
   #meetBlur() {
-    if (!this.#isReplaying && document.activeElement !== this.field) this.#giveUp();
+    if (!this.#isReplaying && document.activeElement !== this.field) this.giveUp();
   }
 
   #meetClick(at) {
-    if (this.#entries[at]) this.#giveUp();
+    if (this.#entries[at]) this.giveUp();
     this.#choose(at, true);
   }
 
   /** Drops the keys that wait. What was typed behind a path, for its file, is given back. */
-  #giveUp() {
+  giveUp() {
     clearInterval(this.#timer);
     const keys = this.#held.splice(0);
     const opens = keys.findIndex(({ key }) => key === "Enter");

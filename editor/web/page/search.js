@@ -5,6 +5,8 @@ import { EventKind } from "./sulgrevad/sulgrevad.js";
 
 const PAGE = 4096; // runes that are loaded round a place that is found
 const SIGNS = /[!-/:-@[-`{-~]/g; // what a pattern of a command line has a backslash before
+const NOWHERE = ["? search\n", "? address\n"]; // what the host prints where a text, or a line, is not there
+const TOO_LONG = "? pattern\n"; // and where a pattern is one that it doesn't take
 
 /** A pattern of a command line that stands for a text. */
 function escaped(text) {
@@ -144,7 +146,7 @@ export class Find {
     if (number - 1 <= Math.min(shown.firstGapLine, doc.lastLine())) return shown.placeOf({ line: number - 1, ch: 0 });
     if (client.firstGap(tag) === null) return null;
     const dot = await this.#ask(tag, from, String(number));
-    if (dot === null || (dot.start === from && dot.end === from)) return null;
+    if (dot === null) return null;
     await session.load(tag, Math.max(0, dot.start - PAGE), dot.start + PAGE);
     return dot.start;
   }
@@ -163,22 +165,21 @@ export class Find {
     return editor.awaited(this.#ask(tag, selection.end, `/${escaped(value)}/`));
   }
 
-  /** Has the host run a command line from a place on. Returns what that selects; null where it is refused. */
+  /** Has the host run a command line from a place on. Returns what that selects; null where it is nowhere. */
   async #ask(tag, from, command) {
     const { session } = this.editor;
-    try {
-      const selected = session.request(EventKind.SELECT, { tag, start: from, number: from });
-      await Promise.all([selected, session.run(tag, command)]);
-      return session.client.file(tag).dot;
-    } catch {
-      return null;
-    }
+    const selected = session.request(EventKind.SELECT, { tag, start: from, number: from });
+    const [, printed] = await Promise.all([selected, session.run(tag, command)]);
+    if (NOWHERE.includes(printed)) return null;
+    if (printed !== "") throw new Error(printed === TOO_LONG ? "the host looks for 128 characters at most" : printed);
+    return session.client.file(tag).dot;
   }
 
   /** The host has selected the place, or none. */
-  #meetAnswer({ isThere, value: dot }, value) {
+  #meetAnswer({ isThere, value: dot, error }, value) {
     if (!isThere) return AGAIN;
-    return dot !== null && dot.end - dot.start === runesOf(value) ? this.#selectLoaded(dot.start, value) : this.#wrap(null, value);
+    if (error !== null) return this.editor.say(error.message);
+    return dot === null ? this.#wrap(null, value) : this.#selectLoaded(dot.start, value);
   }
 
   /** Selects a text at a place, once that is loaded. */

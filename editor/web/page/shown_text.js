@@ -1,5 +1,6 @@
 /* What a page shows of a file: pieces of its text, and gaps where it isn't loaded. Places of the session, which count runes, and positions
- * of CodeMirror, which count lines and UTF-16 units, are found by each other here. */
+ * of CodeMirror, which count lines and UTF-16 units, are found by each other here. CodeMirror has no CR of a CR LF: a caret behind it would
+ * put what is typed between the two. */
 
 export const SHADE = "\ufffc"; // stands in CodeMirror's text for a gap, however long that is, and a line end after it
 const MOST_UNITS = 4096; // of a piece of text
@@ -26,40 +27,48 @@ function unitsOf(text, runes) {
   return units;
 }
 
-/** A stretch of loaded text, which isn't empty. */
+/** A stretch of loaded text, which isn't empty, and how CodeMirror shows it. */
 class Piece {
   isGap = false;
 
   constructor(text) {
     this.text = text;
+    this.shown = text.replaceAll("\r\n", "\n");
     this.runes = runesOf(text);
     this.lines = linesOf(text);
+    this.isPlain = this.runes === text.length && this.units === text.length;
   }
 
   get units() {
-    return this.text.length;
+    return this.shown.length;
   }
 
-  /** How many units so many of its runes have. */
+  /** How many units are shown of so many of its runes. */
   unitsOf(runes) {
-    return this.runes === this.units ? runes : unitsOf(this.text, runes);
+    if (this.isPlain) return runes;
+    const units = unitsOf(this.text, runes);
+    return units - (this.text.slice(0, units + 1).split("\r\n").length - 1);
   }
 
+  /** How many runes are shown as so many units; where a line ends there, those before its CR. */
   runesOf(units) {
-    return this.runes === this.units ? units : runesOf(this.text.slice(0, units));
+    if (this.isPlain) return units;
+    let end = units;
+    for (let at = this.text.indexOf("\r\n"); at >= 0 && at < end; at = this.text.indexOf("\r\n", at + 2)) end++;
+    return runesOf(this.text.slice(0, end));
   }
 
   /** What stands from one of its runes to another. */
   cut(from, to) {
     if (from === 0 && to === this.runes) return [this];
-    return piecesOf(this.text.slice(this.unitsOf(from), this.unitsOf(to)));
+    return piecesOf(this.text.slice(unitsOf(this.text, from), unitsOf(this.text, to)));
   }
 }
 
 /** A stretch that isn't loaded. */
 export class Gap {
   isGap = true;
-  text = `${SHADE}\n`;
+  shown = `${SHADE}\n`;
   lines = 1;
   units = 2;
   shade = null; // what CodeMirror shows for it
@@ -87,20 +96,20 @@ export function piecesOf(text) {
   const pieces = [];
   for (let at = 0; at < text.length; ) {
     let end = Math.min(text.length, at + MOST_UNITS);
-    if (text.codePointAt(end - 1) > 0xffff) end++; // no pair of surrogates is parted
+    if (text.codePointAt(end - 1) > 0xffff || text.slice(end - 1, end + 1) === "\r\n") end++; // neither pair is parted
     pieces.push(new Piece(text.slice(at, end)));
     at = end;
   }
   return pieces;
 }
 
-/** Short pieces of text beside each other, put together. */
+/** Short pieces of text beside each other, put together, but for a CR and an LF that CodeMirror shows both. */
 function merged(pieces) {
   const all = [];
   for (const piece of pieces) {
     const last = all.at(-1);
     const fits = last && !last.isGap && !piece.isGap && last.units + piece.units <= MOST_UNITS;
-    if (fits) all[all.length - 1] = new Piece(last.text + piece.text);
+    if (fits && !(last.text.endsWith("\r") && piece.text.startsWith("\n"))) all[all.length - 1] = new Piece(last.text + piece.text);
     else all.push(piece);
   }
   return all;
@@ -127,7 +136,7 @@ export class Shown {
   positionOf(place) {
     const { at, piece, runes, lines } = this.#find(Math.min(place, this.runes));
     const units = piece === null || piece.isGap ? 0 : piece.unitsOf(place - runes);
-    const text = piece === null ? "" : piece.text.slice(0, units);
+    const text = piece === null ? "" : piece.shown.slice(0, units);
     const end = text.lastIndexOf("\n");
     if (end >= 0) return { line: lines + linesOf(text), ch: units - end - 1 };
     return { line: lines, ch: units + this.#unitsOfLineBefore(at) };
@@ -138,7 +147,7 @@ export class Shown {
     let units = 0;
     while (at-- > 0) {
       const piece = this.pieces[at];
-      if (piece.lines > 0) return units + piece.units - piece.text.lastIndexOf("\n") - 1;
+      if (piece.lines > 0) return units + piece.units - piece.shown.lastIndexOf("\n") - 1;
       units += piece.units;
     }
     return units;
@@ -156,7 +165,7 @@ export class Shown {
         continue;
       }
       let start = 0;
-      for (; !isInLine && lines < line; lines++) start = piece.text.indexOf("\n", start) + 1;
+      for (; !isInLine && lines < line; lines++) start = piece.shown.indexOf("\n", start) + 1;
       isInLine = true;
       if (start + left < piece.units || (start + left === piece.units && !piece.isGap)) {
         return runes + piece.runesOf(start + left);

@@ -1,5 +1,5 @@
 /* A file as CodeMirror shows it: its document is made to say what the session shows, change by change. */
-import { Gap, SHADE, Shown, piecesOf, runesOf } from "./shown_text.js";
+import { Gap, SHADE, Shown, piecesOf } from "./shown_text.js";
 
 export const OURS = "session"; // the origin of changes that say what the session shows already
 const RUNES_IN_LINE = 40; // of a line that isn't loaded, as long as no other number is known
@@ -73,13 +73,25 @@ export class View {
   /** Shows changes, each in the places of the text after the one before. One that is known to be a gap is not read, which would take long
    * for a long one. */
   apply(changes) {
-    const { start, gone, came, isGap } = changes.reduce(hull);
+    const { start, gone, came, isGap } = this.#withPairs(changes.reduce(hull));
     if (gone === 0 && came === 0) return;
     const [from, to] = this.shown.widened(start, start + gone);
     const pieces = isGap ? [new Gap(came)] : read(this.client, this.tag, start, start + came);
     if (from < start) pieces.unshift(new Gap(start - from));
     if (to > start + gone) pieces.push(new Gap(to - start - gone));
     this.#put(from, to - from, pieces, (place) => changes.reduce(moved, place));
+  }
+
+  #hasAt(place, text) {
+    return place >= 0 && this.client.text(this.tag, place, text.length) === text;
+  }
+
+  /** A change, with a CR before it and an LF behind it: these may be shown otherwise by now. */
+  #withPairs({ start, gone, came, isGap }) {
+    const isBehind = start + gone < this.shown.runes; // else the file may be closed
+    const [before, behind] = [this.#hasAt(start - 1, "\r"), isBehind && this.#hasAt(start + came, "\n")].map(Number);
+    const more = before + behind;
+    return { start: start - before, gone: gone + more, came: came + more, isGap: isGap && more === 0 };
   }
 
   /** Shows all of the text anew, and selects a stretch. */
@@ -98,7 +110,7 @@ export class View {
       if (at >= start && at + gap.runes <= start + gone) gap.shade?.clear();
     }
     this.shown.replace(start, gone, pieces);
-    this.doc.replaceRange(pieces.map((piece) => piece.text).join(""), from, to, OURS);
+    this.doc.replaceRange(pieces.map((piece) => piece.shown).join(""), from, to, OURS);
     this.doc.setSelection(...ends.map((place) => this.shown.positionOf(place)), { origin: OURS, scroll: false });
     this.#spareField();
     this.#shadeAll();
@@ -146,13 +158,21 @@ export class View {
     return Math.ceil(this.cm.defaultTextHeight() * Math.max(1, runes / inLine));
   }
 
-  /** What the user changed in CodeMirror's document, which shows it already. Returns the stretch that went. */
-  take(from, removed, text) {
-    const start = this.shown.placeOf(from);
-    const gone = runesOf(removed);
-    this.shown.replace(start, gone, piecesOf(text));
+  /** What the user changed in CodeMirror's document, which shows it already. Returns the stretch that went, its text, and that which
+   * came. */
+  take({ from, to, text }) {
+    const [start, end] = [from, to].map((position) => this.shown.placeOf(position));
+    const gone = this.client.text(this.tag, start, end - start);
+    const came = text.length > 1 ? text.join(this.#lineEndAt(from.line)) : text[0];
+    this.shown.replace(start, end - start, piecesOf(came));
     this.#shadeAll();
-    return { start, end: start + gone };
+    return { start, end, gone, came };
+  }
+
+  /** How lines end there: as the one above does, or this one. */
+  #lineEndAt(line) {
+    const starts = [line, line + 1].map((each) => this.shown.placeOf({ line: each, ch: 0 }));
+    return starts.some((start) => this.#hasAt(start - 2, "\r\n")) ? "\r\n" : "\n";
   }
 
   // ---- Where it stands in the window

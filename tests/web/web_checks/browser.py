@@ -6,24 +6,21 @@ import shlex
 import signal
 import subprocess
 import sys
-import time
 from pathlib import Path
 
 from selenium import webdriver
 from selenium.webdriver.chrome.service import Service
 from selenium.webdriver.common.action_chains import ActionChains
+from selenium.webdriver.common.actions.action_builder import ActionBuilder
 from selenium.webdriver.common.by import By
 
+from checks import ROOT, SAMHOST, SECONDS, Failed, expect, wait_until
 from web_checks.proxy import Proxy
 
-ROOT = Path(__file__).resolve().parents[3]
-SAMHOST = ROOT / "out/samhost"
-SECONDS = 60  # that something may take, on a busy machine, too
-
-# Notes in the page when the first text shows, how often an answer of the host was waited for until then, and of each key: how many
-# milliseconds pass until the document shows it, and whether the next frame does.
+# Notes in the page when the first text shows, how often an answer of the host was waited for until then, and of each key whether the next
+# frame shows it.
 RECORDER = """
-window.keyTimes = [];
+window.areInFrame = [];
 window.firstText = null;
 window.roundTrips = 0;
 let isAsked = false;
@@ -42,13 +39,9 @@ window.WebSocket = class extends WebSocket {
   }
 };
 const shown = () => document.querySelector(".CodeMirror-code")?.textContent ?? "";
-addEventListener("keydown", (event) => {
-  if (event.key.length !== 1 || event.ctrlKey) return;
+addEventListener("keypress", () => {
   const before = shown();
-  const key = { begun: event.timeStamp, took: null, isInFrame: false };
-  window.keyTimes.push(key);
-  addEventListener("input", () => { if (shown() !== before) key.took = performance.now() - key.begun; }, { once: true });
-  requestAnimationFrame(() => { key.isInFrame = shown() !== before; });
+  requestAnimationFrame(() => window.areInFrame.push(shown() !== before));
 }, true);
 const look = () => {
   const line = document.querySelector(".CodeMirror-code .CodeMirror-line");
@@ -61,25 +54,6 @@ requestAnimationFrame(look);
 
 # Whether a file is shown, and some of its text.
 SHOWN = "!!globalThis.sulgrevad?.active && (sulgrevad.cm.getValue() === '' || sulgrevad.active.shown.pieces.some(({ isGap }) => !isGap))"
-
-
-class Failed(Exception):
-    """What does not hold."""
-
-
-def expect(holds, told):
-    if not holds:
-        raise Failed(told)
-
-
-def wait_until(holds, told, seconds=SECONDS):
-    """Waits until something holds, and returns what it is. Else tells what is wrong: words, or what gives them."""
-    until = time.monotonic() + seconds
-    while not (found := holds()):
-        if time.monotonic() > until:
-            raise Failed(f"{told() if callable(told) else told} (waited for {seconds} s)")
-        time.sleep(0.02)
-    return found
 
 
 class Site:
@@ -170,6 +144,15 @@ class Page:
         self.driver.get(self.site.address)
         self.wait_for_text()
 
+    def kill_browser(self):
+        """Kills the browser, and begins it again over what it had on the disk."""
+        driver = self.driver.service.process.pid
+        for children in Path(f"/proc/{driver}/task").glob("*/children"):  # of each thread
+            for process in children.read_text().split():
+                os.kill(int(process), signal.SIGKILL)
+        self.driver.quit()
+        self.driver = browser(self.site.room)
+
     def reload(self):
         self.driver.refresh()
         with contextlib.suppress(Exception):  # some drivers show the question whether to leave, which others answer by themselves
@@ -177,6 +160,20 @@ class Page:
 
     def js(self, expression):
         return self.driver.execute_script(f"return {expression}")
+
+    @contextlib.contextmanager
+    def stopped_clock(self):
+        """Has no time go by for the page meanwhile: no answer is late, no message counts as read, and the user doesn't rest."""
+        self.js("(performance.now = ((now) => () => now)(performance.now()), true)")
+        yield
+        self.js("delete performance.now")
+
+    @property
+    def thread_time(self):
+        """How many milliseconds of the processor the page's thread has taken."""
+        self.driver.execute_cdp_cmd("Performance.enable", {})
+        metrics = self.driver.execute_cdp_cmd("Performance.getMetrics", {})["metrics"]
+        return next(1000 * metric["value"] for metric in metrics if metric["name"] == "ThreadTime")
 
     def press(self, keys):
         """Presses keys: texts, and chords of a modifier and a key."""
@@ -186,6 +183,16 @@ class Page:
                 actions.key_down(key[0]).send_keys(key[1]).key_up(key[0])
             else:
                 actions.send_keys(key)
+        actions.perform()
+
+    def click(self, line, column, button):
+        """Clicks a place of the text by a button: 0 is the left one, 1 that in the middle."""
+        place = f"sulgrevad.cm.charCoords({{ line: {line}, ch: {column} }}, 'window')"
+        left, height = self.js(f"(({{ left, top, bottom }}) => [Math.round(left), Math.round((top + bottom) / 2)])({place})")
+        actions = ActionBuilder(self.driver, duration=0)
+        actions.pointer_action.move_to_location(left, height)
+        actions.pointer_action.pointer_down(button=button)
+        actions.pointer_action.pointer_up(button=button)
         actions.perform()
 
     def part(self, name):

@@ -4,10 +4,11 @@ import contextlib
 import itertools
 import re
 import subprocess
+import threading
 
 import aiohttp
 
-from web_checks.browser import SECONDS, Failed
+from checks import GIVEN_UP, Failed
 
 COMMAND = ["firefox-esr", "--headless", "--no-remote", "--remote-debugging-port", "0", "--profile"]
 LISTENS = re.compile(r"WebDriver BiDi listening on (ws://\S+)")
@@ -24,7 +25,7 @@ class Firefox:
         number = next(self.numbers)
         await self.socket.send_json({"id": number, "method": method, "params": words})
         while True:
-            answer = await self.socket.receive_json(timeout=SECONDS)
+            answer = await self.socket.receive_json(timeout=GIVEN_UP)
             if answer.get("id") == number:
                 break
         if answer["type"] != "success":
@@ -58,10 +59,10 @@ class Firefox:
 
     async def wait_until(self, expression):
         """Waits until an expression holds."""
-        until = asyncio.get_running_loop().time() + SECONDS
+        until = asyncio.get_running_loop().time() + GIVEN_UP
         while not await self.js(expression):
             if asyncio.get_running_loop().time() > until:
-                raise Failed(f"Firefox: not within {SECONDS} s: {expression}")
+                raise Failed(f"Firefox: not within {GIVEN_UP} s: {expression}")
             await asyncio.sleep(0.02)
 
 
@@ -70,8 +71,11 @@ async def firefox(folder, address):
     """A page of that address in a Firefox with a profile of its own."""
     folder.mkdir()
     browser = subprocess.Popen([*COMMAND, folder], stdout=subprocess.DEVNULL, stderr=subprocess.PIPE, text=True)
+    limit = threading.Timer(GIVEN_UP, browser.kill)
+    limit.start()
     try:
         where = next((found[1] for line in browser.stderr if (found := LISTENS.search(line))), None)
+        limit.cancel()
         if where is None:
             raise Failed("Firefox doesn't begin")
         async with aiohttp.ClientSession() as session, session.ws_connect(f"{where}/session", max_msg_size=0) as socket:
@@ -79,5 +83,6 @@ async def firefox(folder, address):
             await page.open(address)
             yield page
     finally:
+        limit.cancel()
         browser.terminate()
         browser.communicate()

@@ -6,6 +6,7 @@ import threading
 
 PIECE = 65_536
 LINE = b"/line "  # stands in the request for a WebSocket
+PREPARES = b"prefetch;prerender"  # stands in the request for a page that the browser only prepares
 BINARY = b"\x82"  # begins a message of the host's bytes; samweb's own are of ASCII
 
 
@@ -17,10 +18,11 @@ class Carried:
 
 
 class Proxy:
-    """Carries connections to a port of this machine. `refuses_lines` has those for a WebSocket closed at once."""
+    """Carries connections to a port of this machine. `refuses_lines` has those for a WebSocket closed at once. `has_prepared` says whether
+    a browser has asked for a page that it only prepares."""
 
     def __init__(self, target):
-        self.target, self.refuses_lines = target, False
+        self.target, self.refuses_lines, self.has_prepared = target, False, False
         self.listener = socket.create_server(("127.0.0.1", 0))
         self.port = self.listener.getsockname()[1]
         self.lock, self.lines = threading.Lock(), []
@@ -35,6 +37,7 @@ class Proxy:
     def _carry(self, near):
         with contextlib.suppress(OSError), near:
             first = near.recv(PIECE)
+            self.has_prepared |= PREPARES in first
             is_line = LINE in first.split(b"\r\n", 1)[0]
             if is_line and self.refuses_lines:
                 return
@@ -60,6 +63,7 @@ class Proxy:
             for ready in select.select(ends, [], [], 60)[0]:
                 data = ready.recv(PIECE)
                 carried.is_answered |= ready is far and BINARY in data
+                self.has_prepared |= ready is near and PREPARES in data
                 if not data and not carried.is_swallowed:
                     return
                 if not data:
