@@ -22,9 +22,10 @@
  * docs/reference/COMMANDS.md the command language.
  *
  * Units. Places and lengths of texts count runes (Unicode scalar values). A text has at most 1,000,000. Texts go in and out as UTF-8 (RFC
- * 3629), and the length beside a pointer to one counts bytes. sam_term_read alone hands out runes as numbers. Names and texts may hold NUL
- * (U+0000) as they hold any other rune, and no call adds one at their end: go by the lengths. Runes are counted by uint32_t; bytes in
- * memory, the room of a buffer, tags and lines of a script by size_t; events, messages and the bytes of a whole stream by uint64_t.
+ * 3629), and the length beside a pointer to one counts bytes. sam_term_read, sam_overlay_read, sam_client_read and sam_client_step_edits
+ * alone hand out runes as numbers. Names and texts may hold NUL (U+0000) as they hold any other rune, and no call adds one at their end: go
+ * by the lengths. Runes are counted by uint32_t; bytes in memory, the room of a buffer, tags and lines of a script by size_t; events,
+ * messages and the bytes of a whole stream by uint64_t.
  *
  * Handles. sam_host, sam_term, sam_overlay, sam_link, sam_line, sam_client, sam_server and sam_recovery are the caller's, on the stack or
  * anywhere else. A handle whose bytes are all zero is empty: SAM_HOST_INIT and its like are, and in C so is {0}. sam_host_new and its like
@@ -36,19 +37,21 @@
  * After SAM_NO_HANDLE, SAM_NO_MEMORY and SAM_NONE, and if a comment below says 'refused', the memory behind these pointers is as it was. A
  * handle that has stopped says why at each feed, even of no bytes.
  *
- * Tags without a file. A tag that was never given and the tag of a closed file are treated alike. For both sam_host_has_file,
- * sam_term_is_known, sam_term_is_open and sam_term_is_changed return SAM_OK and hand out false. sam_term_locked, and sam_term_file as
- * is_locked, hand out whether the command lock is held. All other readers, both _is_dirty too, return SAM_NONE. Of a known file that is not
- * open a terminal has the name and the dirty mark alone: the readers of texts, dots and views return SAM_NONE there too. An event for a
- * file that is not known or not open returns SAM_OK like any other, and is refused when it comes to act: sam_term_next_refusal then names
- * SAM_REFUSAL_NO_FILE or SAM_REFUSAL_NOT_OPEN.
+ * Tags without a file. A tag that was never given and the tag of a closed file are treated alike. For both the calls _has_file,
+ * sam_term_is_known, sam_term_is_open, sam_term_is_changed and sam_client_is_unsaved return SAM_OK and hand out false, and
+ * sam_overlay_waiting and sam_client_waiting hand out 0. sam_term_locked, and the calls _file as is_locked, hand out whether the command
+ * lock is held. All other readers of one file, each _is_dirty too, return SAM_NONE. Of a known file that is not open a terminal has the
+ * name and the dirty mark alone: the readers of texts, dots and views return SAM_NONE there too. An event for a file that is not known or
+ * not open returns SAM_OK like any other, and is refused when it comes to act: sam_term_next_refusal then names SAM_REFUSAL_NO_FILE or
+ * SAM_REFUSAL_NOT_OPEN.
  *
- * Out of memory. Only calls that can return SAM_NO_MEMORY take memory, and steps. If memory is short nothing is lost, and no handle ends.
- * At SAM_NO_MEMORY the input of the call was not taken: make the same call again. At SAM_UNFINISHED it was taken: don't bring it again. The
- * next feed goes on with the work that waits; at a terminal so does the next event, or sam_term_flush_now. Readers and _take_out don't. To
- * go on, feed no bytes until that returns neither SAM_UNFINISHED nor SAM_NO_MEMORY: both mean then that memory is still short. Only a fault
- * of the other side's stream, a message or frame that is refused, or a full count of messages stops a handle. Its readers and _take_out go
- * on to work.
+ * Out of memory. Only calls that can return SAM_NO_MEMORY or SAM_UNFINISHED take memory. If memory is short nothing is lost, and no handle
+ * ends but that of a recovery. At SAM_NO_MEMORY the input of the call was not taken: make the same call again. At SAM_UNFINISHED it was
+ * taken: don't bring it again. The next feed goes on with the work that waits; at a terminal so does the next event, or sam_term_flush_now.
+ * An overlay goes on by its next step, a client by sam_client_next_event, a durable server by sam_server_go_on. Readers and _take_out
+ * don't. To go on, feed no bytes, or make that call, until it returns neither SAM_UNFINISHED nor SAM_NO_MEMORY: both mean then that memory
+ * is still short. Only a fault of the other side's stream, a message or frame that is refused, or a full count of messages or of a durable
+ * server stops a handle. Its readers and _take_out go on to work.
  *
  * The caller owes this, and no call can test it. Pointers other than handles are not NULL but for a length or room of 0, lengths are
  * right, buffers don't overlap, and a handle is in one call at a time. A handle may not move between threads while it is in a call. No
@@ -118,7 +121,7 @@ enum sam_status {
     SAM_NONE = 7,       /* there is no such file, or nothing more to hand out */
     SAM_WAITING = 8,    /* earlier work waits, and the input was not taken: step, or take the splices that are left, then call again */
     SAM_NO_ROOM = 9,    /* the buffer has less room than what is handed out may need, and nothing was done */
-    SAM_TOO_MANY = 10,  /* 1,000 requests of a client wait, or 1,000 tasks are open, and this one was not taken: go on, and ask again */
+    SAM_TOO_MANY = 10,  /* 1,000 requests wait, or 1,000 tasks or command lines are open, and this one was not taken: go on, ask again */
 
     SAM_ADD = 16, /* sam_host_add_file refused a file, and the host is as it was */
     /* SAM_ADD + 1 was SAM_ADD_BEGUN, of a host that was fed already: it is not given again */
@@ -829,7 +832,7 @@ SAM_MUST_USE sam_status sam_term_file(sam_term *term, uint16_t tag, sam_file *fi
 
 /* ---- The terminal: texts of open files ---- */
 
-/* The number by which sam_term_read stands for a rune that is not loaded. */
+/* The number that stands for a rune that is not loaded. */
 #define SAM_GAP UINT32_MAX
 
 /* Hands out the length of an open file in runes, gaps counted. Returns SAM_NONE if the file is not open. */
@@ -1375,17 +1378,19 @@ enum sam_line_state {
 
 /* What sam_line_describe hands out: the state, the counts and the times of a line. */
 struct sam_line_details {
-    uint64_t silence;      /* milliseconds for which nothing has come, though something was due */
-    uint64_t round_trip;   /* milliseconds that the answer to the last question took; 0 before the first */
-    uint64_t failures;     /* connections that failed, one after another; 6 stands for more, too */
-    uint64_t attempt;      /* the number of the newest connection; 0 before the first */
-    uint64_t put_count;    /* bytes of this side's stream, heads of packets and questions included */
-    uint64_t acknowledged; /* of these the bytes that the host has acknowledged */
-    uint64_t received;     /* bytes of the host's stream that have come */
-    uint32_t state;        /* enum sam_line_state */
-    uint32_t why;          /* in SAM_LINE_LOST the host's reason, of SAM_LINK_NOT_A_LINK to SAM_LINK_WRONG_COUNT; else SAM_OK */
-    bool is_known;         /* a host has welcomed this line */
-    bool has_all;          /* the host has acknowledged all that was put */
+    uint64_t silence;       /* milliseconds for which nothing has come, though something was due */
+    uint64_t round_trip;    /* milliseconds that the answer to the last question took; 0 before the first */
+    uint64_t overdue_after; /* milliseconds of silence after which the user is to know that an answer is overdue */
+    uint64_t failures;      /* connections that failed, one after another; 6 stands for more, too */
+    uint64_t attempt;       /* the number of the newest connection; 0 before the first */
+    uint64_t put_count;     /* bytes of this side's stream, heads of packets and questions included */
+    uint64_t acknowledged;  /* of these the bytes that the host has acknowledged */
+    uint64_t received;      /* bytes of the host's stream that have come */
+    uint32_t state;         /* enum sam_line_state */
+    uint32_t why;           /* in SAM_LINE_LOST the host's reason, of SAM_LINK_NOT_A_LINK to SAM_LINK_WRONG_COUNT; else SAM_OK */
+    bool is_known;          /* a host has welcomed this line */
+    bool is_broken;         /* there is no connection, though there was one, or one has failed */
+    bool has_all;           /* the host has acknowledged all that was put */
 };
 typedef struct sam_line_details sam_line_details;
 
@@ -1859,6 +1864,7 @@ enum sam_note_code {
     SAM_NOTE_CUT = 21,            /* of what was cut last */
     SAM_NOTE_UNNAMED = 22,        /* of a file without a name */
     SAM_NOTE_FAILED = 23,         /* the disk failed */
+    SAM_NOTE_UNREADABLE = 24,     /* it can't be read, so another program may have changed it; the next write replaces it, and keeps what it has */
 };
 /* Up to here by tools/session_messages. */
 
@@ -2168,13 +2174,13 @@ SAM_MUST_USE sam_status sam_recovery_finish(sam_recovery *recovery, sam_server *
 
 /* Makes in an empty handle, which is not that of this server, a server of another session that begins with the texts of this one, for a
  * terminal that takes them over. All files but the command file join it with the names and the texts that they have, in the order of their
- * tags: from tag 1 on, with no gap. Each makes a record, and these begin a journal of its own. So the texts are taken over once that journal
- * has the name of the old one. This server is as it was, and can go on until then. Which files are dirty, what was written last, selections
- * and the command file stay behind: mark a file as dirty once the terminal has its name.
+ * tags: from tag 1 on, with no gap. Each makes a record, and these begin a journal of its own. So the texts are taken over once that
+ * journal has the name of the old one. This server is as it was, and can go on until then. Which files are dirty, what was written last,
+ * selections and the command file stay behind: mark a file as dirty once the terminal has its name.
  *
  * Refused, in this order, and both handles are then as they were: SAM_NO_HANDLE if one of them is NULL, or this server's is empty; SAM_MADE
- * if the other is made already; SAM_WAITING if earlier work is left, for sam_server_go_on; SAM_SERVER_EFFECT_WAITS if an effect is not done,
- * also one that is not handed out yet; SAM_NO_MEMORY. A server that has stopped hands its texts on, too. */
+ * if the other is made already; SAM_WAITING if earlier work is left, for sam_server_go_on; SAM_SERVER_EFFECT_WAITS if an effect is not
+ * done, also one that is not handed out yet; SAM_NO_MEMORY. A server that has stopped hands its texts on, too. */
 SAM_MUST_USE sam_status sam_server_heir(sam_server *server, const uint8_t id[SAM_LINK_ID_BYTES], sam_server *heir);
 
 /* ==== Scripts ==== */

@@ -88,9 +88,10 @@ static void settle(void)
         if (sam_server_next_effect(&server, &effect) != SAM_OK)
             return;
         char told[PIECE] = "";
-        if (effect.kind == SAM_EFFECT_WRITE && !save()) {
-            snprintf(told, sizeof told, "not written: %s", strerror(errno));
-            must(sam_server_mark_dirty(&server, TAG));
+        bool is_text = effect.tag == TAG; /* and no file that a terminal has made */
+        if (effect.kind == SAM_EFFECT_WRITE && !(is_text && save())) {
+            snprintf(told, sizeof told, "not written: %s", is_text ? strerror(errno) : "it is another file");
+            must(sam_server_mark_dirty(&server, effect.tag));
         }
         if (effect.kind == SAM_EFFECT_WRITE)
             must(sam_server_say(&server, (uint8_t *)told, strlen(told)));

@@ -17,7 +17,7 @@
 #include <wchar.h>
 
 enum { TAG = 1, PIECE = 4096, MOST_RUNES = 1000000, SHOWN = 1000 /* runes on each side of the caret */, LINES_ABOVE = 12, LINES = 22 };
-enum { LONGEST = 1000 /* milliseconds of one sleep: then what had no memory is tried again */ };
+enum { LONGEST = 1000 /* milliseconds of one sleep: then what had no memory is tried again */, LEAVE = 3 /* ^C */ };
 
 static sam_client client = SAM_CLIENT_INIT;
 static int line = -1; /* the connection, and its number */
@@ -177,14 +177,14 @@ static size_t size_of(const char *keys, size_t len)
     return len < size ? 0 : size;
 }
 
-/* Does what the key does that the bytes begin with, and says how many bytes it has; 0 if it isn't whole. */
+/* Does what the key does that the bytes begin with, and says how many bytes it has; 0 if it isn't whole, or the text isn't open yet. */
 static size_t press(const char *keys, size_t len)
 {
     uint8_t first = (uint8_t)keys[0];
     size_t size = size_of(keys, len);
     uint32_t runes = 0;
     if (size == 0 || sam_client_len(&client, TAG, &runes) != SAM_OK)
-        return size; /* the text isn't open yet */
+        return 0;
     if (first == 27 && size == 3) {
         caret += keys[2] == 'C' && caret < runes;
         caret -= keys[2] == 'D' && caret > 0;
@@ -199,23 +199,33 @@ static size_t press(const char *keys, size_t len)
     return size;
 }
 
+static char keys[PIECE]; /* what was read and is not done yet */
+static size_t keys_len;
 static bool is_told; /* that the host hasn't all, by the last key */
 
-/* Reads keys. Returns whether the user wants to leave. */
+/* Reads keys. Returns whether there were any. */
 static bool read_keys(void)
 {
-    static char keys[PIECE];
-    static size_t len;
-    ssize_t count = read(0, keys + len, sizeof keys - len);
-    len += count > 0 ? (size_t)count : 0;
+    ssize_t count = read(0, keys + keys_len, sizeof keys - keys_len);
+    keys_len += count > 0 ? (size_t)count : 0;
+    return count > 0;
+}
+
+/* Does what the keys do, in their order. Returns whether the user wants to leave. */
+static bool press_keys(void)
+{
     size_t start = 0, size = 1;
-    while (start < len && keys[start] != 3 && (size = press(keys + start, len - start)) > 0)
+    while (start < keys_len && keys[start] != LEAVE && (size = press(keys + start, keys_len - start)) > 0)
         start += size;
     is_told = is_told && start == 0;
-    bool leaves = count <= 0 || (start < len && keys[start] == 3);
-    start += start < len && keys[start] == 3;
-    memmove(keys, keys + start, len -= start);
-    return leaves;
+    char *leave = memchr(keys + start, LEAVE, keys_len - start); /* also behind keys that wait for the text */
+    if (leave != NULL) {
+        keys_len--;
+        memmove(leave, leave + 1, (size_t)(keys + keys_len - leave));
+    }
+    keys_len -= start;
+    memmove(keys, keys + start, keys_len);
+    return leave != NULL;
 }
 
 static void draw(void)
@@ -224,8 +234,7 @@ static void draw(void)
     sam_line_details details;
     uint32_t start = caret < SHOWN ? 0 : caret - SHOWN, count = 0, at = caret - start, lines = 0;
     must(sam_client_describe(&client, now(), &details));
-    bool is_there = details.state == SAM_LINE_OPEN || details.state == SAM_LINE_LATE;
-    printf("\033[H\033[J\033[?7l%s%s\n", is_there ? "" : "no connection ", told);
+    printf("\033[H\033[J\033[?7l%s%s\n", details.is_broken ? "no connection " : "", told);
     if (sam_client_read(&client, TAG, start, runes, 2 * SHOWN, &count) != SAM_OK)
         count = at = 0;
     while (at > 0 && (lines += runes[at - 1] == '\n') <= LINES_ABOVE)
@@ -266,20 +275,21 @@ int main(int argc, char **argv)
     ask(SAM_EVENT_OPEN, 0);
     ask(SAM_EVENT_LOAD, MOST_RUNES);
     for (bool leaves = false; !leaves;) {
-        keep_line(argv[1]);
-        go_on();
-        send_out();
-        draw();
         if (sam_client_due_in(&client, now(), &left) != SAM_OK || left > LONGEST)
             left = LONGEST;
-        struct pollfd ends[2] = {{.fd = 0, .events = POLLIN}, {.fd = line, .events = POLLIN}};
+        struct pollfd ends[2] = {{.fd = keys_len < sizeof keys ? 0 : -1, .events = POLLIN}, {.fd = line, .events = POLLIN}};
         ends[1].events |= out_start < out_end ? POLLOUT : 0;
         if (poll(ends, 2, (int)left) < 0 && errno != EINTR)
             return 1;
         if (ends[1].revents & (POLLIN | POLLHUP | POLLERR))
             receive();
-        if (ends[0].revents != 0 && read_keys())
-            leaves = may_leave();
+        bool has_ended = ends[0].revents != 0 && !read_keys();
+        keep_line(argv[1]);
+        go_on(); /* it may open the text */
+        leaves = (press_keys() || has_ended) && may_leave();
+        go_on();
+        send_out();
+        draw();
     }
     return 0;
 }

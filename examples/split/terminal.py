@@ -5,7 +5,6 @@ import curses
 import signal
 import sys
 
-from sulgrevad import Line
 from sulgrevad.aio import Session
 
 LINES_ABOVE = 12  # how many lines are shown above that of the caret
@@ -18,12 +17,11 @@ class Window:
         self.session = Session(lambda: asyncio.open_unix_connection(path), take_over=True, on_line=self.draw)
 
     def draw(self):
-        state = "" if self.session.line.state in (Line.OPEN, Line.LATE) else "no connection "
         text = self.document.text if self.document else ""
         above = text[: self.caret].split("\n")[-1 - LINES_ABOVE :]
         self.screen.erase()
         with contextlib.suppress(curses.error):  # the text is longer than the screen
-            self.screen.addstr(state + self.told + "\n" + "\n".join(above) + "|" + text[self.caret :])
+            self.screen.addstr("\n".join(["no connection " * self.session.line.is_broken + self.told, *above]) + "|" + text[self.caret :])
         self.screen.refresh()
 
     def tell(self, words):
@@ -32,8 +30,7 @@ class Window:
 
     def change(self, start, gone, text):
         """Moves the caret with the text around it."""
-        if start <= self.caret:
-            self.caret = max(start, self.caret - gone) + len(text)
+        self.caret = max(start, self.caret - gone) + len(text) if start <= self.caret else self.caret
         self.draw()
 
     def press(self, key):
@@ -64,6 +61,7 @@ async def main(screen, path):
     screen.nodelay(True)
     window, loop = Window(screen, path), asyncio.get_running_loop()
     loop.add_signal_handler(signal.SIGINT, window.leave)
+    loop.set_exception_handler(lambda _, context: window.tell(context.get("exception", context["message"])))  # why a key did nothing
     window.document = await window.session.open("text")
     window.document.on_change = window.change
     loop.add_reader(0, window.read_keys)

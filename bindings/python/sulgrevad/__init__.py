@@ -41,8 +41,8 @@ called. Once an object was freed, each call of it but `free` and `close` raises 
 
 Out of memory: after `NoMemory` the input of the call was not taken, so make the call again. After `Unfinished` it was taken, so don't bring
 it again. The next `feed`, event or `flush_now` goes on, and `feed()` without bytes does just that; it raises `NoMemory` while memory is
-still short. Both are `MemoryError`s, and neither ends anything. A `MemoryError` that is neither is Python's own: the input of the call was
-not taken.
+still short. An overlay goes on by its next `step`, a client by `next_event`, a durable server by `go_on`. Both are `MemoryError`s, and
+neither ends anything. A `MemoryError` that is neither is Python's own: the input of the call was not taken.
 
 The shared library is the first of these that is there:
 

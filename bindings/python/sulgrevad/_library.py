@@ -3,6 +3,7 @@ import ctypes
 import os
 from ctypes import POINTER, c_bool, c_char, c_char_p, c_size_t, c_uint8, c_uint16, c_uint32, c_uint64, c_void_p
 from pathlib import Path
+from struct import Struct
 from typing import Any, Dict, Tuple, Union
 
 # A text that a call takes: its characters, or its UTF-8.
@@ -82,9 +83,9 @@ class Details(ctypes.Structure):
     """sam_line_details: the state, the counts and the times of a line."""
 
     _fields_ = [
-        ("silence", c_uint64), ("round_trip", c_uint64), ("failures", c_uint64), ("attempt", c_uint64), ("put_count", c_uint64),
-        ("acknowledged", c_uint64), ("received", c_uint64), ("state", c_uint32), ("why", c_uint32), ("is_known", c_bool),
-        ("has_all", c_bool),
+        ("silence", c_uint64), ("round_trip", c_uint64), ("overdue_after", c_uint64), ("failures", c_uint64), ("attempt", c_uint64),
+        ("put_count", c_uint64), ("acknowledged", c_uint64), ("received", c_uint64), ("state", c_uint32), ("why", c_uint32),
+        ("is_known", c_bool), ("is_broken", c_bool), ("has_all", c_bool),
     ]  # fmt: skip
 
 
@@ -120,6 +121,11 @@ class Handle(ctypes.Structure):
     """sam_host and all other handles; empty if all bytes are zero."""
 
     _fields_ = [("at", c_void_p), ("made", c_uint64)]
+
+
+def reader_of(structure: Any) -> Struct:
+    """Returns what reads all fields of a structure at once, in their order: to ask for each by its name takes longer than the call."""
+    return Struct("".join(kind._type_ for _, kind in structure._fields_))
 
 
 _BYTES, _BUFFER, _RUNES = (c_char_p, c_size_t), (POINTER(c_char), c_size_t), (POINTER(c_uint32), c_size_t)

@@ -4,8 +4,7 @@ from collections import deque
 from ctypes import byref, c_size_t
 from typing import Any, Deque, Optional, Tuple, Union
 
-from sulgrevad.sides import NONE, OK, Held, least
-from sulgrevad.status import error_of
+from sulgrevad.sides import Held, least
 
 ID_BYTES = 16
 MOST_NOTE = 4096
@@ -35,12 +34,8 @@ class Mover(Held):
         moved = left.popleft() if left else (ctypes.create_string_buffer(room), 0, c_size_t(NOT_YET))
         into, start, count = moved
         try:
-            if count.value == NOT_YET:
-                code = self._answer(name, *arguments, into, len(into), byref(count))
-                if code == NONE:
-                    return None
-                if code != OK:
-                    raise error_of(code)
+            if count.value == NOT_YET and not self._has(name, *arguments, into, len(into), byref(count)):
+                return None
             end = min(start + room, count.value)
             taken: bytes = into[start:end]
             rest = (into, end, count) if end < count.value else None

@@ -4,8 +4,7 @@ from typing import Iterator, List, Optional, SupportsIndex, Tuple
 
 from sulgrevad._library import Did, Text, bytes_of
 from sulgrevad.results import HostDid
-from sulgrevad.sides import MOST_IN_NAME, OK, STEPS, Side, index
-from sulgrevad.status import Status, error_of
+from sulgrevad.sides import MOST_IN_NAME, STEPS, Side, index
 
 
 class Host(Side):
@@ -24,12 +23,7 @@ class Host(Side):
         """Returns the kind of the oldest message that waits, by the numbers of docs/reference/PROTOCOL.md, and the tag of the file that it
         names, or 0; None if no message waits. The next step that takes a message begins with this one."""
         kind, tag = c_uint8(), c_uint16()
-        code = self._answer("next_message", byref(kind), byref(tag))
-        if code == Status.NONE:
-            return None
-        if code != OK:
-            raise error_of(code)
-        return kind.value, tag.value
+        return (kind.value, tag.value) if self._has("next_message", byref(kind), byref(tag)) else None
 
     def step(self) -> HostDid:
         """Makes one step with the messages that wait, and returns its result. If frames of the last answer are left over, the step makes

@@ -2,15 +2,14 @@
 import ctypes
 import enum
 from ctypes import byref, c_size_t, c_uint32, c_uint64
-from struct import Struct
 from typing import NamedTuple, Optional
 
-from sulgrevad._library import Details
+from sulgrevad._library import Details, reader_of
 from sulgrevad.carrier import Bytes, Carrier, Outward, id_of
 
 MOST_WORDS = 65_536  # bytes before the host's hello
 
-_DETAILS = Struct("7Q2I2?")  # the fields of Details, in their order
+_DETAILS = reader_of(Details)
 
 
 class Tick(enum.IntEnum):
@@ -27,13 +26,15 @@ TICKS = tuple(Tick)  # by their numbers
 
 class LineDetails(NamedTuple):
     """The state, the counts and the times of a line. `state` is one of Line.DOWN to Line.LOST. `why` is the Status of the host's reason if
-    the line is lost, else Status.OK. Times are in milliseconds: `silence` is that for which nothing has come, though something was due, and
-    `round_trip` that of the last question. Counts are in bytes, but for `failures`, the connections that failed one after another, up to 6,
-    and `attempt`, the number of the newest one. `is_known` says whether a host has welcomed the line, `has_all` whether the host has
-    acknowledged all that was put."""
+    the line is lost, else Status.OK. Times are in milliseconds: `silence` is that for which nothing has come, though something was due,
+    `round_trip` that of the last question, and after `overdue_after` of silence the user is to know that an answer is overdue. Counts are
+    in bytes, but for `failures`, the connections that failed one after another, up to 6, and `attempt`, the number of the newest one.
+    `is_known` says whether a host has welcomed the line, `is_broken` whether there is no connection, though there was one, or one has
+    failed, `has_all` whether the host has acknowledged all that was put."""
 
     silence: int
     round_trip: int
+    overdue_after: int
     failures: int
     attempt: int
     put_count: int
@@ -42,6 +43,7 @@ class LineDetails(NamedTuple):
     state: int
     why: int
     is_known: bool
+    is_broken: bool
     has_all: bool
 
 

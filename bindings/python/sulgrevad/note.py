@@ -67,6 +67,7 @@ class NoteCode(enum.IntEnum):
     CUT = 21  # of what was cut last
     UNNAMED = 22  # of a file without a name
     FAILED = 23  # the disk failed
+    UNREADABLE = 24  # it can't be read, so another program may have changed it; the next write replaces it, and keeps what it has
 
     @classmethod
     def _missing_(cls, value: object) -> "NoteCode":

@@ -5,8 +5,8 @@ from typing import Iterator, List, NamedTuple, Optional
 
 from sulgrevad._library import CEvent, CSplice, Did, Text, bytes_of
 from sulgrevad.results import Change, TerminalDid
-from sulgrevad.sides import NONE, OK, STEPS, Streams, index, least
-from sulgrevad.status import Status, Step, error_of
+from sulgrevad.sides import STEPS, Streams, index, least
+from sulgrevad.status import Status, Step
 from sulgrevad.terminal import GAP, Refusals, Screen
 
 
@@ -129,11 +129,8 @@ class Shown(Screen):
     def next_splice(self) -> Optional[Splice]:
         """Returns the next change of the shown text by the last step; None if none is left."""
         splice = CSplice()
-        code = self._answer("next_splice", byref(splice))
-        if code == NONE:
+        if not self._has("next_splice", byref(splice)):
             return None
-        if code != OK:
-            raise error_of(code)
         return Splice(SPLICE_KINDS[splice.kind], splice.tag, splice.place, splice.count)
 
     def splices(self) -> Iterator[Splice]:
@@ -147,11 +144,8 @@ class Shown(Screen):
         order, and all is then as it was: Waiting if splices are left; NoMemory."""
         room = 4 * self.waiting(tag)
         into, splice, got = create_string_buffer(room), CSplice(), c_size_t()
-        code = self._answer("drop_next", tag, byref(splice), into, room, byref(got))
-        if code == NONE:
+        if not self._has("drop_next", tag, byref(splice), into, room, byref(got)):
             return None
-        if code != OK:
-            raise error_of(code)
         return Dropped(splice.tag, splice.place, splice.count, string_at(into, got.value).decode())
 
     def waiting(self, tag: int) -> int:

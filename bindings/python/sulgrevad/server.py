@@ -7,8 +7,7 @@ from typing import Any, Deque, Iterable, NamedTuple, Optional, Tuple
 
 from sulgrevad._library import CEffect, Handle, Text, bytes_of
 from sulgrevad.carrier import MOST_NOTE, MOST_PIECE, Bytes, Mover, id_of
-from sulgrevad.sides import MOST_IN_NAME, NONE, OK, Counts, Held, Texts, least
-from sulgrevad.status import error_of
+from sulgrevad.sides import MOST_IN_NAME, Counts, Held, Texts, least
 
 
 class EffectKind(enum.IntEnum):
@@ -159,12 +158,7 @@ class DurableServer(Counts, Texts, Mover):
         is not durable. What the terminal sent behind it waits for that: do it soon. After a crash an effect is returned again, unless the
         record of its end is durable."""
         effect = CEffect()
-        code = self._answer("next_effect", byref(effect))
-        if code == NONE:
-            return None
-        if code != OK:
-            raise error_of(code)
-        return Effect(KINDS[effect.kind], effect.tag, effect.len)
+        return Effect(KINDS[effect.kind], effect.tag, effect.len) if self._has("next_effect", byref(effect)) else None
 
     def heard(self) -> bytes:
         """Returns the message that is to be heard now. Raises Missing if `next_effect` returns no message."""

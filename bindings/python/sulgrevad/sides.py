@@ -85,6 +85,14 @@ class Held:
         if code != OK:
             raise error_of(code)
 
+    def _has(self, name: str, *arguments: Any) -> bool:
+        """Makes a call, and returns whether it hands out something; it doesn't if it answers SAM_NONE. Raises the exception of any other
+        status that is not SAM_OK."""
+        code = self._answer(name, *arguments)
+        if code not in (OK, NONE):
+            raise error_of(code)
+        return code == OK
+
     def _number(self, name: str, kind: Any, *arguments: Any) -> int:
         """Makes a call that hands out one number, and returns the number."""
         result = kind()
@@ -94,12 +102,7 @@ class Held:
     def _number_if_any(self, name: str, kind: Any, *arguments: Any) -> Optional[int]:
         """Makes a call that hands out one number, and returns the number; None if the call answers SAM_NONE."""
         result = kind()
-        code = self._answer(name, *arguments, byref(result))
-        if code == NONE:
-            return None
-        if code != OK:
-            raise error_of(code)
-        return int(result.value)
+        return int(result.value) if self._has(name, *arguments, byref(result)) else None
 
     def _truth(self, name: str, *arguments: Any) -> bool:
         """Makes a call that hands out yes or no, and returns that."""

@@ -186,7 +186,8 @@ class SamError(Exception):
 
     @property
     def is_stop(self) -> bool:
-        """Returns whether the host or terminal has stopped for good: the other side's stream is wrong, or was refused."""
+        """Returns whether the host, terminal or server has stopped for good: the other side's stream is wrong, or was refused, or a count
+        of a server is full."""
         return bool(LIBRARY.sam_is_stop(self.code))
 
     def __reduce__(self) -> Tuple[Any, ...]:
@@ -199,8 +200,7 @@ class NoMemory(SamError, MemoryError):
 
 
 class Unfinished(SamError, MemoryError):
-    """Out of memory, but the input of the call was taken: the next feed, event or `flush_now` goes on with the work that waits
-    (SAM_UNFINISHED)."""
+    """Out of memory, but the input of the call was taken, and some of it waits: go on (SAM_UNFINISHED)."""
 
 
 class CountFull(SamError, OverflowError):
@@ -212,7 +212,7 @@ class Waiting(SamError):
 
 
 class TooMany(SamError):
-    """1,000 requests of a client wait, or 1,000 tasks are open, so go on first; the input was not taken (SAM_TOO_MANY)."""
+    """1,000 requests wait, or 1,000 tasks or command lines are open, so go on first; the input was not taken (SAM_TOO_MANY)."""
 
 
 class HandleFault(SamError, ValueError):
@@ -250,7 +250,7 @@ class TerminalRefused(SamError):
 
 
 class EditRefused(SamError, ValueError):
-    """An overlay refused an edit of the user (SAM_REFUSAL_..). The overlay is as it was."""
+    """An edit or a command line of the user was refused (SAM_REFUSAL_..). The overlay, client or session is as it was."""
 
 
 class LinkFault(SamError):

@@ -1,10 +1,9 @@
 """The terminal: windows, and texts that are perhaps loaded in part."""
 from ctypes import byref, c_size_t, c_uint16, c_uint32, c_uint64
 from itertools import chain
-from struct import Struct
 from typing import Iterator, List, Optional, Tuple
 
-from sulgrevad._library import LIBRARY, Did, File, State, Text, bytes_of
+from sulgrevad._library import LIBRARY, Did, File, State, Text, bytes_of, reader_of
 from sulgrevad.edits import Edit, Edits, read_runes, received
 from sulgrevad.results import Change, FileState, NextFrame, Refusal, TerminalDid, TerminalState
 from sulgrevad.sides import END, MOST_IN_NAME, NONE, OK, STEPS, Held, Side, Texts, least
@@ -15,7 +14,7 @@ FEW = 64  # runes for which there is room before it is known how many there are
 GAP = 2**32 - 1  # a rune that is not loaded
 
 _FEW_RUNES = c_uint32 * FEW
-_STATE, _FILE = Struct("5Q2N2IH2?"), Struct("5I6?")  # the fields of State and File, in their order
+_STATE, _FILE = reader_of(State), reader_of(File)
 
 
 class Refusals(Held):
@@ -24,12 +23,7 @@ class Refusals(Held):
     def next_refusal(self) -> Optional[Refusal]:
         """Returns the oldest refused event that was not handed out yet; None if there is none."""
         event, why = c_uint64(), c_uint32()
-        code = self._answer("next_refusal", byref(event), byref(why))
-        if code == Status.NONE:
-            return None
-        if code != OK:
-            raise error_of(code)
-        return Refusal(event.value, Status(why.value))
+        return Refusal(event.value, Status(why.value)) if self._has("next_refusal", byref(event), byref(why)) else None
 
     def refusals(self) -> Iterator[Refusal]:
         """Yields the refused events that were not handed out yet, oldest first."""

@@ -3,12 +3,13 @@ import asyncio
 import time
 from typing import Any, Awaitable, Callable, Optional, TypeVar
 
-from sulgrevad.note import Note
-from sulgrevad.status import LinkFault, SamError
+from sulgrevad.note import Note, read_note
+from sulgrevad.status import LinkFault, NoteFault, SamError, Status
 
 MILLISECONDS = 1000  # in a second
 MOST_PIECE = 65_536  # bytes that are read together
 SHORT = 0.1  # seconds after which a call is made again for which memory was out
+MESSAGES_VERSION = 1  # of the messages of a session
 
 
 class SessionOver(Exception):
@@ -36,6 +37,16 @@ def now() -> int:
 def seconds(milliseconds: Optional[int]) -> Optional[float]:
     """Returns a time of that clock in seconds."""
     return None if milliseconds is None else milliseconds / MILLISECONDS
+
+
+def heard(data: bytes) -> Optional[Note]:
+    """Returns the message that came; None for one of a kind that only a later version knows. Raises NoteFault."""
+    try:
+        return read_note(data)
+    except NoteFault as fault:
+        if fault.code != Status.NOTE_BAD_KIND:
+            raise
+        return None
 
 
 Result = TypeVar("Result")

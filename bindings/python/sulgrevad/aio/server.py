@@ -8,14 +8,13 @@ import socket
 from collections import defaultdict, deque
 from typing import Callable, DefaultDict, Deque, Dict, List, Mapping, Optional, Sequence, Set, Tuple, Union
 
-from sulgrevad.aio.ends import End, within
+from sulgrevad.aio.ends import MESSAGES_VERSION, End, heard, within
 from sulgrevad.carrier import ID_BYTES
 from sulgrevad.host import Host
 from sulgrevad.link import HELLO_BYTES, Hello, Link, What, read_hello, write_refusal
-from sulgrevad.note import Note, NoteCode, NoteKind, read_note, write_note
-from sulgrevad.status import LinkFault, MarkRefused, Missing, NoteFault, Status, Step
+from sulgrevad.note import Note, NoteCode, NoteKind, write_note
+from sulgrevad.status import LinkFault, MarkRefused, Missing, Status, Step
 
-MESSAGES_VERSION = 1  # of the messages of a session
 MOST_WORDS = 900  # characters of words for people in one message
 MOST_REQUESTS = 1000  # for writes of a file that wait
 GREETING = 30.0  # seconds that a hello may take
@@ -47,6 +46,7 @@ class _Served(End):
 
     def add(self, name: str, text: str) -> int:
         tag = self.host.add_file(name, text)
+        write_note(Note(NoteKind.OPEN, path=name.encode()))  # raises what each terminal would meet that opens it
         self.tags[tag] = name
         return tag
 
@@ -56,6 +56,11 @@ class _Served(End):
     def files(self) -> List[Tuple[int, str]]:
         """The tags and names of the texts that are not closed."""
         return [(tag, name) for tag, name in self.tags.items() if self.host.has_file(tag)]
+
+    def new_files(self) -> List[Tuple[str, str]]:
+        """The names and texts of the files that the terminal has made."""
+        tags = [tag for tag in range(1, self.host.tags) if tag not in self.tags and self.host.has_file(tag)]
+        return [(self.host.name(tag), self.host.text(tag)) for tag in tags]
 
     @property
     def has_heard(self) -> bool:
@@ -104,12 +109,7 @@ class _Served(End):
             self._heard = self.link.next_note()
         if self._heard is None:
             return False
-        try:
-            note = read_note(self._heard)
-        except NoteFault as fault:
-            if fault.code != Status.NOTE_BAD_KIND:  # else it comes from a later version
-                raise
-        else:
+        if note := heard(self._heard):
             self._hear(note)
         self._heard = None
         return True
@@ -160,6 +160,8 @@ class _Served(End):
         name, request = self.tags.get(tag) or self.host.name(tag), self.requests[tag].popleft() if self.requests[tag] else 0
         note = Note(NoteKind.SAVED, request, tag, path=name.encode(), text=f"{name} is written")
         try:
+            if tag not in self.tags:
+                raise LookupError("a file of the terminal's own")
             self.server._write(name, self.host.saved(tag))
         except Exception as why:
             code = CODES.get(why.errno or 0, NoteCode.OTHER) if isinstance(why, OSError) else NoteCode.OTHER
@@ -203,7 +205,9 @@ class Server:
     The first terminal begins the session, and goes on over as many connections as it needs. Another one is refused, or takes the texts over
     if it asks for that. `on_write` is called as `on_write(name, text)` when a terminal has a text written: it returns once that is safe, or
     raises an exception, mostly an OSError, which the terminal is told. It is called in the event loop, so it should not take long, and is
-    no coroutine function: of what would have to be awaited the terminal is told that it failed. Raises AddRefused and NoMemory.
+    no coroutine function: of what would have to be awaited the terminal is told that it failed. A file that a terminal makes is none of
+    these texts, and is not written. Raises AddRefused, NotText and NoMemory, and NoteFault (NOTE_BAD_PATH) for a name with a zero, which
+    no terminal could open.
     """
 
     def __init__(self, files: Mapping[str, str], on_write: Optional[OnWrite] = None) -> None:
@@ -225,7 +229,7 @@ class Server:
     def unsaved(self) -> List[str]:
         """Returns the names of the texts that were changed since they were written."""
         served = self._served
-        return [name for tag, name in served.files() if served.host.is_dirty(tag)] if served else []
+        return [name for tag, name in served.files() if tag in served.to_mark or served.host.is_dirty(tag)] if served else []
 
     async def accept(self, reader: asyncio.StreamReader, writer: asyncio.StreamWriter) -> None:
         """Serves one connection until it is over: give it to `asyncio.start_server` or `asyncio.start_unix_server`."""
@@ -285,14 +289,22 @@ class Server:
     def _answer(self, hello: Hello, data: bytes) -> _Served:
         """Takes a connection. Raises LinkFault if it is refused, and then nothing has changed."""
         served = self._served
-        is_other = served is None or (hello.what == What.TAKE_OVER and hello.id != served.id)
-        if served is None or is_other:
-            served = self._begin(hello.id, self.texts, self.unsaved)
+        if served is None or (hello.what == What.TAKE_OVER and hello.id != served.id):
+            served = self._heir(hello.id)
         served.link.answer(data)
         if served is not self._served:
             if self._served:
                 self._served.stop()
             self._served = served
+        return served
+
+    def _heir(self, id: bytes) -> _Served:
+        """Begins the session of a terminal, with the texts of the one before. Raises LinkFault if that one has ended its session."""
+        before = self._served
+        if before and before.host.is_done:
+            raise LinkFault(Status.LINK_NO_SESSION)
+        served = self._begin(id, self.texts, self.unsaved)
+        served.to_mark.update(served.host.add_file(*file) for file in (before.new_files() if before else ()))
         return served
 
     def _write(self, name: str, text: str) -> None:
@@ -328,8 +340,8 @@ async def _expect_unserved(path: str) -> None:
 async def serve(files: Mapping[str, str], address: Address, on_write: Optional[OnWrite] = None) -> Dict[str, str]:
     """Serves texts by name to one session, as a `Server` does, and returns them once that is over, written or not. The address is the path
     of a Unix socket, a host and a port, or a reader and a writer that are connected: then the session ends with that connection. If the
-    await is cancelled the terminal is told that the session is over. Raises the fault of a terminal whose bytes were wrong, and OSError if
-    nobody can listen there, or another program does."""
+    await is cancelled the terminal is told that the session is over. Raises what `Server` raises; OSError if nobody can listen there, or
+    another program does; and the fault of a terminal whose bytes were wrong."""
     server, listener = Server(files, on_write), None
     try:
         if isinstance(address, (str, os.PathLike)):

@@ -8,15 +8,15 @@ from types import TracebackType
 from typing import Any, Awaitable, Callable, Deque, Dict, List, Optional, Set, Tuple, Type
 
 from sulgrevad.aio.document import Document
-from sulgrevad.aio.ends import End, RequestRefused, SessionLost, SessionOver, now, seconds, told_of, within
+from sulgrevad.aio.ends import MESSAGES_VERSION, End, RequestRefused, SessionLost, SessionOver, heard, now, seconds, told_of, within
 from sulgrevad.aio.requests import MOST_REQUESTS, MOST_RUNES, Request, Requests, fail, succeed
 from sulgrevad.carrier import ID_BYTES
 from sulgrevad.client import Client, ClientEvent, ClientEventKind
 from sulgrevad.line import LineDetails, Tick
-from sulgrevad.note import Note, NoteKind, read_note
+from sulgrevad.note import Note, NoteKind
 from sulgrevad.overlay import EventKind, Splice, SpliceKind
-from sulgrevad.results import Change
-from sulgrevad.status import NoMemory, NoteFault, SamError, Status, TooMany
+from sulgrevad.results import Change, TerminalDid
+from sulgrevad.status import NoMemory, SamError, Status, TooMany
 
 VERSION = 2  # of the protocol
 OPENING = 30.0  # seconds that a connection may take
@@ -24,6 +24,7 @@ COMMAND_FILE = 0  # its tag
 MOST_TYPED = 512  # runes of a command line that are one request
 REQUESTS_OF_A_LINE = 5  # at most, and one more for each 512 runes
 NOT_LOADED = "\ufffd"  # stands for a rune that is not loaded
+OTHER_VERSION = "the host is of another version: both sides have to be of one release"
 
 Opener = Callable[[], Awaitable[Tuple[asyncio.StreamReader, asyncio.StreamWriter]]]
 _Wait = Tuple[Callable[[], bool], Callable[[], None]]  # what is done once something holds
@@ -34,7 +35,8 @@ class Session(End):
 
     With `take_over` the session begins with the texts of another terminal's session, if the host has one, and that one is lost; without it
     the host refuses a second terminal. `on_line`, if the program gives it, is called without arguments whenever the state of the line has
-    changed: `line` says what a status line shows.
+    changed: `line` says what a status line shows. `on_note`, if the program sets it, is called as `on_note(note)` with each message of the
+    host that answers nothing: as LOST, of a text that it could save nowhere, or CHANGED, of a file that another program has changed.
 
     The opener's OSError, EOFError or TimeoutError means that no connection can be made now. Any other exception of it ends the session.
     Make a session in the event loop. `async with` closes it at the end; if an exception leaves the block, the session stays at the host.
@@ -46,6 +48,7 @@ class Session(End):
         self._id = os.urandom(ID_BYTES)
         self._client = Client(self._id, take_over, now())
         self._opener, self._on_line = opener, on_line
+        self.on_note: Optional[Callable[[Note], object]] = None
         self._documents: Dict[int, Document] = {}
         self._joins: "Dict[bytes, asyncio.Future[Note]]" = {}  # answers to come, by the paths that were asked for
         self._requests = Requests()
@@ -53,6 +56,7 @@ class Session(End):
         self._futures: "Set[asyncio.Future[Any]]" = set()  # of all that wait
         self._changes: Deque[Callable[[], object]] = deque()  # that the program was not told of
         self._state = Client.DOWN
+        self._is_greeted = False  # the host's first message has come
         self._is_closing = False
         self._why: Optional[BaseException] = None  # the session is over
         self._woken = asyncio.Event()
@@ -87,8 +91,8 @@ class Session(End):
 
     @property
     def line(self) -> LineDetails:
-        """Returns the state of the line, for a status line: `state` is Line.OPEN while the host answers, `silence` the time for which it
-        should have, and didn't."""
+        """Returns the state of the line, for a status line: whether it `is_broken`, and by `silence` for how long an answer is missing,
+        which is overdue from `overdue_after` on."""
         return self._client.describe(now())
 
     @property
@@ -280,10 +284,8 @@ class Session(End):
     def _take(self, told: ClientEvent) -> None:
         for splice in [*self._client.splices()]:
             self._show(splice)
-        if told.kind == ClientEventKind.NOTE:
-            self._hear(self._client.note)
-        elif told.kind == ClientEventKind.ANSWERED and told.did:
-            self._answer(self._requests.answered(told.did.task), read_note(self._client.note))
+        if told.kind in (ClientEventKind.NOTE, ClientEventKind.ANSWERED):
+            self._hear(heard(self._client.note), told.did)
         elif told.kind in (ClientEventKind.STEPPED, ClientEventKind.REFUSED) and told.did:
             self._requests.take(told.did)
         elif told.kind == ClientEventKind.RAN and told.did:
@@ -295,17 +297,21 @@ class Session(End):
                 act()
         self._tell_changes()
 
-    def _hear(self, data: bytes) -> None:
-        try:
-            note = read_note(data)
-        except NoteFault as fault:
-            if fault.code != Status.NOTE_BAD_KIND:  # else it comes from a later version
-                raise
+    def _hear(self, note: Optional[Note], did: Optional[TerminalDid]) -> None:
+        """Hears a message of the host, which may end a task. The first one says of which version all are."""
+        if not self._is_greeted and (note is None or (note.kind, note.number) != (NoteKind.SESSION, MESSAGES_VERSION)):
+            raise SessionOver(OTHER_VERSION)
+        self._is_greeted = True
+        if note is None:
+            return
+        if did:
+            self._answer(self._requests.answered(did.task), note)
             return
         if note.kind == NoteKind.ENDED:
             raise SessionOver("its host has ended the session")
         if note.kind == NoteKind.TAKEN_OVER:
             raise SessionLost(Status.LINK_OTHER_SESSION)
+        self._note_change(self.on_note, note)
 
     def _answer(self, futures: "List[asyncio.Future[Note]]", note: Note) -> None:
         """Answers those who wait for a message of the host; those of a write once all has come of that."""

@@ -165,6 +165,7 @@ pub const SAM_NOTE_OLDER: u8 = 20;
 pub const SAM_NOTE_CUT: u8 = 21;
 pub const SAM_NOTE_UNNAMED: u8 = 22;
 pub const SAM_NOTE_FAILED: u8 = 23;
+pub const SAM_NOTE_UNREADABLE: u8 = 24;
 
 // Up to here by tools/session_messages.
 
@@ -453,6 +454,8 @@ pub struct sam_line_details {
     pub silence: u64,
     /// How long the answer to the last question took; 0 before the first.
     pub round_trip: u64,
+    /// After how much silence the user is to know that an answer is overdue.
+    pub overdue_after: u64,
     /// How many connections failed, one after another; 6 stands for more, too.
     pub failures: u64,
     /// The number of the newest connection; 0 before the first.
@@ -469,6 +472,8 @@ pub struct sam_line_details {
     pub why: u32,
     /// Whether a host has welcomed the line.
     pub is_known: bool,
+    /// Whether there is no connection, though there was one, or one has failed.
+    pub is_broken: bool,
     /// Whether the host has acknowledged all that was put.
     pub has_all: bool,
 }

@@ -292,9 +292,9 @@ impl Client {
     /// and finds the text that is shown now, with the host's changes since. A place that it names moves with that text: what the host puts
     /// in at the place itself stands behind it, and a range of which all goes is empty there; a place past the end of the text stays.
     /// Returns the number of the request, by which `next_event` tells once that it acted, was refused, or lapsed where the session is over;
-    /// a write that would find the same text as one that waits is that one, and has its number. Errors, in this order, and the client is then as it was: `NoMemory`, if it
-    /// brings a text; `Waiting` while an edit was put that has not acted: go on first; `TooMany` if 1,000 requests wait; `CountFull`;
-    /// `NoMemory`.
+    /// a write that would find the same text as one that waits is that one, and has its number. Errors, in this order, and the client is
+    /// then as it was: `NoMemory`, if it brings a text; `Waiting` while an edit was put that has not acted: go on first; `TooMany` if 1,000
+    /// requests wait; `CountFull`; `NoMemory`.
     pub fn ask(&mut self, event: Event<'_>) -> Result<u64, Error> {
         let (text, mut number) = (event.text(), 0);
         done(unsafe { sys::sam_client_ask(self.at(), &event.numbers(), text.as_ptr(), text.len(), &mut number) })?;

@@ -188,13 +188,14 @@ pub enum Error {
     /// Out of memory, and the input of the call was not taken: make the call again.
     NoMemory,
     /// Out of memory, but the input of the call was taken: don't bring it again. The next feed, event or `flush_now` goes on with the work
-    /// that waits, and feeding no bytes does just that. It returns `NoMemory` while memory is still short.
+    /// that waits, and feeding no bytes does just that. It returns `NoMemory` while memory is still short. An overlay goes on by its next
+    /// `step`, a client by `next_event`, a durable server by `go_on`.
     Unfinished,
     /// A stream of 2^64 bytes, or 2^64 events or connections.
     CountFull,
     /// Earlier work waits, so make steps, and take the splices, first; the input was not taken.
     Waiting,
-    /// 1,000 requests of a client wait, or 1,000 tasks are open, so go on first; the input was not taken.
+    /// 1,000 requests wait, or 1,000 tasks or command lines are open, so go on first; the input was not taken.
     TooMany,
     /// Bytes that are not UTF-8.
     NotText,
@@ -214,7 +215,7 @@ pub enum Error {
     HostRefused(HostFault),
     /// The terminal refused a frame, and has stopped.
     TermRefused(TermFault),
-    /// An overlay refused an edit of the user, and is as it was.
+    /// An overlay or a client refused an edit or a command line of the user, and is as it was.
     Edit(Refusal),
     /// A call of a link or a line was refused, which goes on.
     Link(LinkFault),

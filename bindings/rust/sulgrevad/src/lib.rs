@@ -1,6 +1,6 @@
 //! A proved host and a proved terminal for editors whose screen and text live apart, after Rob Pike's sam: safe Rust over the C library.
 //! An [`Overlay`] is a terminal for an editor that takes each key at once: what its user does is shown while it waits.
-//! A [`Client`] is that and its line to the host, for a front end whose connections may break; a [`Session`] also makes them, and reads them.
+//! A [`Client`] is that and its line to the host, for a front end whose connections may break; a [`Session`] also makes and reads them.
 //! A [`Link`] carries the bytes of both over connections that may break; a [`Line`] also says when a terminal is to connect.
 //! A [`DurableServer`] is a host with its end of a link, which goes on after a crash from records of what it took.
 //! `sulgrevad.h` and the page EMBEDDING of the repository have the whole story, and `sulgrevad-sys` says how the library is found.

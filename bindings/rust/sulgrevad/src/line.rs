@@ -77,6 +77,8 @@ pub struct LineDetails {
     pub silence: u64,
     /// How long the answer to the last question took; 0 before the first.
     pub round_trip: u64,
+    /// After how much silence the user is to know that an answer is overdue.
+    pub overdue_after: u64,
     /// How many connections failed, one after another; 6 stands for more, too.
     pub failures: u64,
     /// The number of the newest connection; 0 before the first.
@@ -89,6 +91,8 @@ pub struct LineDetails {
     pub received: u64,
     /// Whether a host has welcomed the line.
     pub is_known: bool,
+    /// Whether there is no connection, though there was one, or one has failed.
+    pub is_broken: bool,
     /// Whether the host has acknowledged all that was put.
     pub has_all: bool,
 }
@@ -100,12 +104,14 @@ impl LineDetails {
             state: LineState::of(details),
             silence: details.silence,
             round_trip: details.round_trip,
+            overdue_after: details.overdue_after,
             failures: details.failures,
             attempt: details.attempt,
             put_count: details.put_count,
             acknowledged: details.acknowledged,
             received: details.received,
             is_known: details.is_known,
+            is_broken: details.is_broken,
             has_all: details.has_all,
         }
     }

@@ -137,6 +137,8 @@ pub enum NoteCode {
     Unnamed = 22,
     /// The disk failed.
     Failed = 23,
+    /// It can't be read, so another program may have changed it; the next write replaces it, and keeps what it has.
+    Unreadable = 24,
 }
 
 impl NoteCode {
@@ -167,6 +169,7 @@ impl NoteCode {
             21 => NoteCode::Cut,
             22 => NoteCode::Unnamed,
             23 => NoteCode::Failed,
+            24 => NoteCode::Unreadable,
             _ => NoteCode::Other,
         }
     }

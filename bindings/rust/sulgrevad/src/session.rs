@@ -9,6 +9,7 @@ use std::os::unix::net::UnixStream;
 #[cfg(target_os = "linux")]
 use std::os::{raw::c_int, unix::io::AsRawFd};
 use std::process::ChildStdin;
+use std::sync::atomic::{AtomicBool, Ordering};
 use std::sync::mpsc::{sync_channel, Receiver, SyncSender};
 use std::sync::{Arc, Mutex, TryLockError};
 use std::thread::{self, JoinHandle};
@@ -103,7 +104,10 @@ enum Came {
 
 /// Wakes a session from another thread, as where keys are read.
 #[derive(Clone, Debug)]
-pub struct Waker(SyncSender<Came>);
+pub struct Waker {
+    is_woken: Arc<AtomicBool>,
+    sender: SyncSender<Came>,
+}
 
 impl fmt::Debug for Came {
     fn fmt(&self, to: &mut fmt::Formatter<'_>) -> fmt::Result {
@@ -114,15 +118,19 @@ impl fmt::Debug for Came {
 impl Waker {
     /// Has `go_on`, which waits for the host, return at once.
     pub fn wake(&self) {
-        let _ = self.0.try_send(Came::Woken); // if there is no room it is awake
+        self.is_woken.store(true, Ordering::SeqCst);
+        let _ = self.sender.try_send(Came::Woken); // if there is no room it doesn't wait, and looks as it takes the next piece
     }
 }
 
 /// A client that connects again by itself. `open` makes a connection, as `TcpStream::connect` does: its two halves, or an error if there is
-/// none now. A thread makes and reads each connection, so the session waits for the host and for a time limit alike.
+/// none now. One that takes more than 30 seconds is given up, and while `open` is at it none else is tried: so give it a limit of time. A
+/// thread makes and reads each connection, so the session waits for the host and for a time limit alike.
 ///
 /// Neither a connection that is long in coming nor one that takes nothing holds up the session, and one that ends loses nothing. Before the
 /// program ends it waits until [`Client::has_all`] is true: what has not come to the host is lost with the session.
+///
+/// The id is to be random. Over samhost a file is opened by its path ([`Client::begin`]): the crate's example `append` is a whole program.
 ///
 /// ```no_run
 /// use sulgrevad::{Event, Session};
@@ -154,7 +162,7 @@ pub struct Session<O, R, W: WriteHalf> {
     began: Instant,
     is_short: bool,
     is_full: bool,
-    sender: SyncSender<Came>,
+    waker: Waker,
     came: Receiver<Came>,
 }
 
@@ -164,8 +172,8 @@ where
     R: Read + Send + 'static,
     W: WriteHalf + Send + 'static,
 {
-    /// Makes a session, whose first connection is made as it goes on. The id and `take_over` are those of [`Client::new`]. Its only error is
-    /// `NoMemory`.
+    /// Makes a session, whose first connection is made as it goes on. The id and `take_over` are those of [`Client::new`]. Its only error
+    /// is `NoMemory`.
     pub fn new(id: [u8; 16], take_over: bool, open: O) -> Result<Session<O, R, W>, Error> {
         let (sender, came) = sync_channel(MOST_WAITING);
         let (client, began) = (Client::new(id, take_over, 0)?, Instant::now());
@@ -179,14 +187,14 @@ where
             began,
             is_short: false,
             is_full: false,
-            sender,
+            waker: Waker { is_woken: Arc::default(), sender },
             came,
         })
     }
 
     /// Returns what wakes this session.
     pub fn waker(&self) -> Waker {
-        Waker(self.sender.clone())
+        self.waker.clone()
     }
 
     /// Returns the time that the client is told, in milliseconds.
@@ -206,10 +214,10 @@ where
                 Ok(Came::Made(attempt)) => self.take_halves(attempt),
                 Ok(Came::Piece(attempt, bytes)) => self.receive(attempt, &bytes),
                 Ok(Came::End(attempt)) => self.end(attempt),
-                Ok(Came::Woken) => return self.move_all(&mut tell).map(|_| ()),
-                Err(_) => {} // the time is over: the sender is here, too
+                Ok(Came::Woken) | Err(_) => {} // or the time is over: the sender is here, too
             }
-            has_told = self.move_all(&mut tell)? || left.is_zero();
+            let is_over = self.waker.is_woken.swap(false, Ordering::SeqCst) || left.is_zero();
+            has_told = self.move_all(&mut tell)? || is_over;
         }
         Ok(())
     }
@@ -277,7 +285,7 @@ where
     fn connect(&mut self) -> Result<(), SessionError> {
         self.hang_up();
         self.attempt = self.client.connected(self.now()).map_err(SessionError::Stopped)?;
-        let (attempt, sender, open) = (self.attempt, self.sender.clone(), Arc::clone(&self.open));
+        let (attempt, sender, open) = (self.attempt, self.waker.sender.clone(), Arc::clone(&self.open));
         let making = thread::Builder::new().spawn(move || {
             let halves = match open.try_lock() {
                 Ok(mut open) => open(),
@@ -300,7 +308,7 @@ where
             return; // it was given up
         }
         if let Some(Ok(Ok((reader, mut writer)))) = self.making.take().map(JoinHandle::join) {
-            let (sender, is_limited) = (self.sender.clone(), writer.limit_writes().is_ok());
+            let (sender, is_limited) = (self.waker.sender.clone(), writer.limit_writes().is_ok());
             self.writer = Some(writer);
             if is_limited && thread::Builder::new().spawn(move || read(reader, attempt, &sender)).is_ok() {
                 return;

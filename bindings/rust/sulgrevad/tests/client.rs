@@ -121,8 +121,8 @@ impl Session {
         }
     }
 
-    /// Has all come that the host has, and makes its edits in a text, in which `None` stands for a rune that is not loaded. Returns the kinds
-    /// of the frames that are told else.
+    /// Has all come that the host has, and makes its edits in a text, in which `None` stands for a rune that is not loaded. Returns the
+    /// kinds of the frames that are told else.
     fn take_edits(&mut self, tag: u16, text: &mut Vec<Option<char>>) -> Vec<u8> {
         while self.up() + self.down() > 0 {}
         let (mut edits, mut kinds) = (Vec::new(), Vec::new());

@@ -74,12 +74,14 @@ fn bytes_and_notes_go_both_ways() {
         state: LineState::Open,
         silence: 0,
         round_trip: 120,
+        overdue_after: 1240,
         failures: 0,
         attempt: 1,
         put_count: 15,
         acknowledged: 15,
         received: 23,
         is_known: true,
+        is_broken: false,
         has_all: true,
     };
     assert_eq!(line.describe(1120), wanted);

@@ -38,11 +38,11 @@ fn each_kind_is_written_and_read() {
 #[test]
 fn a_code_of_a_later_version_is_another() {
     let codes: Vec<NoteCode> = (0..=255).map(NoteCode::of).collect();
-    assert_eq!((codes[0], codes[23], codes[24], codes[255]), (NoteCode::NoCode, NoteCode::Failed, NoteCode::Other, NoteCode::Other));
-    for (number, code) in codes[..24].iter().enumerate() {
+    assert_eq!((codes[0], codes[24], codes[25], codes[255]), (NoteCode::NoCode, NoteCode::Unreadable, NoteCode::Other, NoteCode::Other));
+    for (number, code) in codes[..25].iter().enumerate() {
         assert_eq!(*code as usize, number);
     }
-    let ended = read_note(b"E\x18\0\0\0\0\0\0\0\x01").unwrap();
+    let ended = read_note(b"E\x19\0\0\0\0\0\0\0\x01").unwrap();
     assert_eq!((ended.kind, ended.code, ended.number), (NoteKind::Ended, NoteCode::Other, 1));
 }
 

@@ -5,6 +5,7 @@ use std::io::{self, Read, Write};
 use std::net::{TcpListener, TcpStream};
 use std::os::unix::net::UnixStream;
 use std::process::{ChildStdin, Command, Stdio};
+use std::sync::atomic::{AtomicUsize, Ordering};
 use std::sync::{mpsc, Arc, Mutex};
 use std::thread;
 use std::time::{Duration, Instant};
@@ -20,6 +21,10 @@ const LIMIT: Duration = Duration::from_secs(100);
 const SOON: Duration = Duration::from_millis(30);
 /// Notes of 4,096 bytes: more than all on the way to a host has room for.
 const NOTES: u8 = 150;
+/// Bytes of a login: more than the pieces for which a session has room.
+const WORDS: usize = 40;
+/// The pieces for which it has room.
+const MOST_WAITING: usize = 16;
 /// A stack for which no machine has room.
 const NO_ROOM: &str = "140737488355328";
 
@@ -362,6 +367,45 @@ fn a_limit_of_any_length_ends_by_a_wake() {
     .unwrap();
     session.waker().wake();
     session.go_on(Duration::MAX, |_, event, _| panic!("{event:?}")).unwrap();
+}
+
+/// Words of a login, a byte at a time, which tell the program nothing. The first waits until it may go, and so does that behind the last.
+struct Login {
+    may_go: mpsc::Receiver<()>,
+    count: Arc<AtomicUsize>, // of the reads that were begun
+}
+
+impl Read for Login {
+    fn read(&mut self, into: &mut [u8]) -> io::Result<usize> {
+        if self.count.fetch_add(1, Ordering::SeqCst) % WORDS == 0 && self.may_go.recv().is_err() {
+            return Ok(0);
+        }
+        into[0] = b'x';
+        Ok(1)
+    }
+}
+
+#[test]
+fn no_wake_is_lost_where_many_pieces_wait() {
+    in_time(|| {
+        let (began, (go, may_go)) = (Instant::now(), mpsc::channel());
+        let (count, (writer, _far)) = (Arc::new(AtomicUsize::new(0)), UnixStream::pair().unwrap());
+        let login = Login { may_go, count: Arc::clone(&count) };
+        let mut halves = Some((login, writer));
+        let mut session = Session::new(ID, false, move || halves.take().ok_or_else(|| io::ErrorKind::NotFound.into())).unwrap();
+        while count.load(Ordering::SeqCst) == 0 {
+            assert!(began.elapsed() < LIMIT);
+            session.go_on(SOON, |_, event, _| panic!("{event:?}")).unwrap();
+        }
+        go.send(()).unwrap();
+        while count.load(Ordering::SeqCst) <= MOST_WAITING {
+            assert!(began.elapsed() < LIMIT);
+            thread::sleep(SOON);
+        }
+        session.waker().wake();
+        session.go_on(LIMIT, |_, event, _| panic!("{event:?}")).unwrap();
+        assert!(began.elapsed() < LIMIT);
+    });
 }
 
 #[test]
