@@ -9,9 +9,10 @@ import time
 from collections import Counter
 from pathlib import Path
 
-SECONDS = 40  # how long something may take
-MOST_TIMES = 5
-GIVEN_UP = 100  # seconds after which what doesn't end counts as hanging, however busy the machine is
+SECONDS = 100  # how long something may take
+MOST_MORE = 300  # seconds that are waited beyond that, however busy the machine is: what never comes would hold up the gate for half an hour
+MOST_TIMES = 20
+GIVEN_UP = 300  # seconds after which what doesn't end counts as hanging, however busy the machine is
 ROOT = Path(__file__).resolve().parent.parent
 LIBRARY = Path(os.environ.get("SAM_LIBRARY") or ROOT / "out" / "libsulgrevad.so").resolve()
 SAMHOST = Path(os.environ.get("SAMHOST") or ROOT / "out" / "samhost").resolve()
@@ -86,8 +87,71 @@ def times_slower():
     return max(1, min(MOST_TIMES, pieces[len(pieces) // 2] / pieces[0]))
 
 
+QUIET_LOOP = 0.023  # seconds of the processor that `least_loop` took on the quiet machine on which the limits for costs were set
+
+
+def least_loop():
+    """The least seconds of the processor that a fixed loop takes here, of three."""
+
+    def loop():
+        before = time.process_time()
+        sum(at * at for at in range(300_000))
+        return time.process_time() - before
+
+    return min(loop() for _ in range(3))
+
+
+def times_dearer():
+    """How many times more of the processor a piece of work takes here than on a quiet machine; once at least. Machines of one kind differ
+    by two times, and from hour to hour."""
+    return max(1, least_loop() / QUIET_LOOP)
+
+
+PAUSES = (0, 1, 4, 10)  # seconds before each try
+
+
+def in_some_try(check):
+    """Has a check that measures something hold in one of several tries, with longer and longer pauses: other programs make a machine slow
+    for a while, and what is slow by itself fails each time. Returns what it returned."""
+    why = None
+    for pause in PAUSES:
+        time.sleep(pause)
+        try:
+            return check()
+        except Failed as failed:
+            why = failed
+    raise why
+
+
+def expect_cheap(cost, most, told):
+    """What `cost` does takes fewer seconds of the processor than so many of a quiet machine; it returns them."""
+
+    def check():
+        took, dearer = cost(), times_dearer()
+        expect(took < most * dearer, f"{told}: {took * 1000:.2f} ms of the processor, wanted {most * 1000:.2f}, {dearer:.1f} times dearer here")
+
+    in_some_try(check)
+
+
+def seconds_of(process):
+    """The seconds of the processor that a process has taken."""
+    return sum(int((task / "schedstat").read_text().split()[0]) for task in Path(f"/proc/{process}/task").iterdir()) / 1e9
+
+
+def expect_sleep(processes, most=0.05):
+    """Two seconds cost processes next to none of the processor."""
+
+    def check():
+        before = sum(map(seconds_of, processes))
+        time.sleep(2)
+        cost = sum(map(seconds_of, processes)) - before
+        expect(cost < most, f"two quiet seconds cost {cost:.3f} s of the processor")
+
+    in_some_try(check)
+
+
 def wait_until(holds, told, seconds=None):
-    """Waits until something holds; answers what it was. On a busy machine it waits as many times longer as work takes there."""
+    """Waits until something holds; answers what it was. On a busy machine it waits as many times longer as work takes there, to a limit."""
     limit, is_longer = seconds or SECONDS, False
     until = time.monotonic() + limit
     while True:
@@ -96,7 +160,7 @@ def wait_until(holds, told, seconds=None):
             return got
         if time.monotonic() >= until:
             expect(not is_longer, told() if callable(told) else told)
-            until, is_longer = until + limit * (times_longer() - 1), True
+            until, is_longer = until + min(limit * (times_longer() - 1), MOST_MORE), True
         time.sleep(0.01)
 
 

@@ -20,6 +20,7 @@ class Details(NamedTuple):
 
     silence: int
     round_trip: int
+    overdue_after: int
     failures: int
     attempt: int
     put_count: int
@@ -28,6 +29,7 @@ class Details(NamedTuple):
     state: int
     why: int
     is_known: bool
+    is_broken: bool
     has_all: bool
 
 
@@ -82,8 +84,10 @@ class Line:
 
     def describe(self, now: int) -> Details:
         link = self.link
-        counts = (link.attempt, link.put_count, link.acknowledged, link.received)
-        return Details(self._silence(now), self.round_trip, self.failures, *counts, self.state, self.why, link._welcomed, self.has_all)
+        counts = (self.failures, link.attempt, link.put_count, link.acknowledged, link.received)
+        is_broken = self.state not in (OPEN, LATE) and (link._welcomed or self.failures > 0)
+        times = (self._silence(now), self.round_trip, 1_000 + 2 * self.round_trip)
+        return Details(*times, *counts, self.state, self.why, link._welcomed, is_broken, self.has_all)
 
     @property
     def words(self) -> bytes:

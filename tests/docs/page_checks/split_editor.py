@@ -15,6 +15,8 @@ from checks import LIBRARY, ROOT, SECONDS, Failed, Skipped, expect, expect_equal
 
 from .programs import build_disk
 
+sys.path.append(str(ROOT / "bindings/python"))
+
 SPLIT = ROOT / "examples/split"
 NAME = "notes.txt"
 SETTING = {"PYTHONPATH": str(ROOT / "bindings/python"), "PYTHONDONTWRITEBYTECODE": "1", "LC_ALL": "C.UTF-8", "SHELL": "/bin/sh"}
@@ -351,8 +353,31 @@ def other_keys(folder, pair):
         wait_until(lambda: (folder / NAME).read_text() == wanted, lambda: f"the file is {(folder / NAME).read_text()!r}")
 
 
+def keys_wait(folder, pair):
+    """What is typed before the text has come stands in it."""
+    with served(folder, pair, "Shopping\n") as line:
+        line.cut()
+        with shown(folder, pair) as screen:
+            screen.wait_for_state("no connection")
+            screen.type("now ")
+            line.mend()
+            saved(folder, screen, "now Shopping\n")
+
+
+def is_full(folder, pair):
+    """A key for which the text has no room is told of, and the next one that needs none does its work."""
+    text = "line of 16 runes" * 62_500
+    with served(folder, pair, text), shown(folder, pair, f"{NAME}.socket") as screen:
+        wait_until(lambda: "line of" in screen.text, "the text doesn't come")
+        screen.type("x")
+        wait_until(lambda: "REFUSAL_TOO_LONG" in screen.lines[0], lambda: f"it doesn't tell: {screen.lines[0]}")
+        screen.press("Right", "BSpace", "C-w")
+        wait_until(lambda: (folder / NAME).read_text() == text[1:], "the next keys do nothing")
+
+
 def is_safe(folder, pair):
-    """A text is safe on the disk before it takes the name of the old one. Returns what was done to names, and what became safe, in order."""
+    """A text is safe on the disk before it takes the name of the old one, and then its name is. Returns what was done to names, and what
+    became safe, in order."""
     notes, library = folder / "notes", build_disk(folder)
     with served(folder, pair, "Shopping\n", {"LD_PRELOAD": str(library), "NOTED": str(notes)}), shown(folder, pair, f"{NAME}.socket") as screen:
         screen.wait_for("Shopping\n")
@@ -364,7 +389,8 @@ def is_safe(folder, pair):
     lines = notes.read_text().splitlines()
     at = lines.index(rename)
     expect(f"sync {folder / NAME}.new" in lines[:at], f"a text that isn't safe takes the old one's name: {lines}")
-    return lines, at
+    expect_equal(lines[at + 1], f"sync {folder}")
+    return lines
 
 
 def has_one_host(folder, pair):
@@ -467,14 +493,29 @@ def check_split_editor_in_c_other_keys(folder):
     other_keys(folder, in_c(folder))
 
 
+def check_split_editor_keys_wait(folder):
+    keys_wait(folder, in_python(folder))
+
+
+def check_split_editor_in_c_keys_wait(folder):
+    keys_wait(folder, in_c(folder))
+
+
+def check_split_editor_is_full(folder):
+    is_full(folder, in_python(folder))
+
+
+def check_split_editor_in_c_is_full(folder):
+    is_full(folder, in_c(folder))
+
+
 def check_split_editor_is_safe(folder):
     is_safe(folder, in_python(folder))
 
 
 def check_split_editor_in_c_is_safe(folder):
-    """The names of text and journal are safe, too, before the terminal hears of it."""
-    lines, at = is_safe(folder, in_c(folder))
-    expect_equal(lines[at + 1], f"sync {folder}")
+    """So are the journal and its name."""
+    lines = is_safe(folder, in_c(folder))
     at = lines.index(f"rename {NAME}.journal.new {NAME}.journal")
     expect(f"sync {folder / NAME}.journal.new" in lines[:at], f"a journal that isn't safe takes its name: {lines}")
     expect_equal(lines[at + 1], f"sync {folder}")
@@ -486,6 +527,33 @@ def check_split_editor_has_one_host(folder):
 
 def check_split_editor_in_c_has_one_host(folder):
     has_one_host(folder, in_c(folder))
+
+
+def check_split_editor_in_c_new_file(folder):
+    """A file that a terminal makes is not written, in the place of the text least of all, and the host goes on."""
+    from sulgrevad import Link, Terminal
+
+    with served(folder, in_c(folder), "Shopping\n") as line, socket.socket(socket.AF_UNIX) as connection:
+        link, terminal = Link(Link.TERMINAL, bytes(16)), Terminal()
+        connection.settimeout(SECONDS)
+        connection.connect(str(line.host.place))
+        attempt = link.call(True)
+        connection.sendall(link.take_out(attempt, HELLO_BYTES))
+        link.welcomed(connection.recv(HELLO_BYTES, socket.MSG_WAITALL))
+        terminal.offer_version(2)
+        terminal.new_file()
+        terminal.type(2, "other")
+        terminal.write(2)
+        while (note := link.next_note()) is None:
+            link.put(terminal.take_out())
+            connection.sendall(link.take_out(attempt))
+            came = connection.recv(4096)
+            expect(came, "the host has ended")
+            link.feed(attempt, came)
+            while data := link.take_in():
+                terminal.feed(data)
+        expect_equal((note, terminal.text(2)), (b"not written: it is another file", "other"))
+    expect_equal((folder / NAME).read_text(), "Shopping\n")
 
 
 def check_split_editor_in_c_long_file(folder):

@@ -146,9 +146,10 @@ static void silence(void)
     WANT(due_in(&line, 1000), 0);
     WANT(tick_of(&line, 1000), SAM_TICK_CONNECT);
     WANT(tick_of(&line, 1000), SAM_TICK_NOTHING);
-    WANT(due_in(&line, 1000), 30000);
+    WANT(due_in(&line, 1000) == 30000 && !details_of(&line, 1000).is_broken, 1); /* none has failed yet */
     WANT(connect(&line, 2000), 1);
     WANT(say(&line, SAM_LINK_WELCOME, 1, 2000), SAM_OK);
+    WANT(details_of(&line, 2000).overdue_after == 1000 && !details_of(&line, 2000).is_broken, 1);
     WANT(sam_line_put(&line, BYTES("hi"), 2100), SAM_OK);
     WANT(sam_line_ask(&line, 2100), SAM_OK);
     WANT(!details_of(&line, 2100).has_all && due_in(&line, 2100) == 15000, 1);
@@ -158,6 +159,7 @@ static void silence(void)
     WANT(count == 8 && memcmp(bytes, DATA "\0\2hi" ASK "\0\0", count) == 0, 1);
     WANT(sam_line_receive(&line, 1, BYTES(answer), 2220), SAM_OK);
     WANT(details_of(&line, 2220).has_all && details_of(&line, 2220).round_trip == 120, 1);
+    WANT(details_of(&line, 2220).overdue_after, 1240); /* a second, and two round trips */
 
     WANT(sam_line_put(&line, BYTES("!"), 3000), SAM_OK);
     WANT(details_of(&line, 2500).silence, 0); /* the time doesn't go back */
@@ -167,6 +169,7 @@ static void silence(void)
     WANT(tick_of(&line, 32999), SAM_TICK_NOTHING);
     WANT(tick_of(&line, 33000), SAM_TICK_DROP);
     WANT(sam_line_take_out(&line, 1, bytes, sizeof bytes, &count), SAM_LINK_NOT_OPEN);
+    WANT(details_of(&line, 33000).is_broken, 1);
     WANT(tick_of(&line, 33000), SAM_TICK_CONNECT);
     WANT(sam_line_free(&line), SAM_OK);
 }

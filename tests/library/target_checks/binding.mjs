@@ -340,8 +340,8 @@ function checkLine() {
   host.feed(first, line.takeOut(first));
   line.receive(first, host.takeOut(first), 1100);
   const wanted = {
-    ...{ silence: 0, roundTrip: 80, failures: 1, attempt: 1, putCount: 15, acknowledged: 15, received: 26 },
-    ...{ state: Line.OPEN, why: Status.OK, isKnown: true, hasAll: true },
+    ...{ silence: 0, roundTrip: 80, overdueAfter: 1160, failures: 1, attempt: 1, putCount: 15, acknowledged: 15, received: 26 },
+    ...{ state: Line.OPEN, why: Status.OK, isKnown: true, isBroken: false, hasAll: true },
   };
   same(line.describe(1100), wanted);
   line.acknowledge();

@@ -451,6 +451,6 @@ function checkClientsMemory() {
 
 export const CLIENT_CHECKS = [
   ...[checkClientsLine, checkRefusedPieces, checkTypedUnderALock, checkClientsReaders, checkSplicesAreTakenFirst],
-  ...[checkManyReplacements, checkManyEdits, checkRoomEndsWithinAStep, checkManyLoads, checkTasks, checkRuns, checkRefusedTasks, checkWindows],
-  ...[checkClientsTakenBack, checkRefusedClient, checkClientsMemory],
+  ...[checkManyReplacements, checkManyEdits, checkRoomEndsWithinAStep, checkManyLoads, checkTasks, checkRuns, checkRefusedTasks],
+  ...[checkWindows, checkClientsTakenBack, checkRefusedClient, checkClientsMemory],
 ];

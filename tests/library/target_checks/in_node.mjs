@@ -5,7 +5,7 @@ import { runInNewContext } from "node:vm";
 import { Host, memory } from "../../../bindings/javascript/sulgrevad.js";
 import { checkAll } from "./binding.mjs";
 
-const SECONDS = 60;
+const SECONDS = 300;
 
 async function checkCollected() {
   setFlagsFromString("--expose-gc");

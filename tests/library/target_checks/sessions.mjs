@@ -9,7 +9,7 @@ import { Far } from "./far.mjs";
 const { Client, EventKind, NoMemory, NoteKind, RequestRefused, Session, SessionLost, SessionOver, Status } = sulgrevad;
 const { Unfinished, writeRefusal } = sulgrevad;
 export const ID = bytes(16, 7);
-const SECONDS = 60; // that something may take
+const SECONDS = 300; // that something may take
 const BREAKS = 40;
 
 const pause = (milliseconds = 0) => new Promise((resolve) => setTimeout(resolve, milliseconds));
@@ -356,7 +356,9 @@ async function checkEnds() {
   const unmade = new Session(() => {
     throw new TypeError("no address");
   });
-  same([(await unmade.over).cause.message, await rejection(unmade.close().then(() => Promise.reject(1)))], ["no address", 1]);
+  const { message, cause } = await unmade.over;
+  same([message, cause.message], ["the session can't go on: no address", "no address"]);
+  same(await rejection(unmade.close().then(() => Promise.reject(1))), 1);
   const answers = new Answers(() => {});
   answers.rejectAll(ended);
   same([await answers.until(() => true), (await rejection(answers.until(() => false))) === ended], [undefined, true]); // once it is over
