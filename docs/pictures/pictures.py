@@ -106,7 +106,8 @@ PLACES = {
 LEFT_OUT = {
     *("sam_tests", "sam_tests_threads", "sam_test_support", "sam_examples"),
     # Their arrows would cross the whole picture.
-    *("sam_note", "sam_server", "sam_shown", "sam_waiting", "sam_client", "sam_front", "sam_attached", "sam_end_to_end"),
+    *("sam_note", "sam_server", "sam_shown", "sam_waiting", "sam_client", "sam_front", "sam_handles", "sam_c_client", "sam_attached"),
+    "sam_end_to_end",
 }
 
 
