@@ -6,7 +6,7 @@ use std::io::{self, Read};
 use std::process::{ChildStdin, ChildStdout, Command, Stdio};
 use std::time::Duration;
 use std::{env, process};
-use sulgrevad::{read_note, Client, ClientEvent, Event, NoteKind, Session};
+use sulgrevad::{read_note, Client, ClientEvent, Event, NoteKind, Session, Shown};
 
 const LONG: Duration = Duration::from_secs(60);
 const MESSAGES_VERSION: u64 = 1;

@@ -1,15 +1,10 @@
 //! The user's side of a session: an overlay, and its line to the host.
 
 use crate::edits::{is_followed, take_edits};
-use crate::line::words_of;
+use crate::handle::Held;
 use crate::link::MOST_NOTE;
 use crate::step::term_step;
-use crate::terminal::shown;
-use crate::{
-    done, part_of_text, short_text, tells, told, whole_text, Dropped, Error, Event, FileState, LineDetails, NoteKind, Refusal, Replacement,
-    ShownEdit, Splice, SpliceKind, TermState, TermStep, Tick,
-};
-use std::cell::UnsafeCell;
+use crate::{done, tells, Error, NoteKind, Refusal, Replacement, Shown, ShownEdit, SpliceKind, TermStep};
 use sulgrevad_sys::{self as sys, sam_client, sam_client_event, sam_did};
 
 /// What a client tells as it goes on.
@@ -23,7 +18,7 @@ pub enum ClientEvent {
     /// A frame was received or an event acted. The splices are to be taken. If a request acted, its number stands beside it.
     Stepped(TermStep, Option<u64>),
     /// An event was refused: by its number over all events that acted or were refused, edits that were put among them; as a request, by
-    /// that of [`Client::ask`]; as the write of a task, to which no answer comes, by that of [`Client::write`]. A reason that this crate
+    /// that of [`Shown::ask`]; as the write of a task, to which no answer comes, by that of [`Client::write`]. A reason that this crate
     /// doesn't know is `Err`, with its number in sulgrevad.h.
     Refused {
         event: u64,
@@ -38,7 +33,7 @@ pub enum ClientEvent {
     /// The session is over, and no answer comes to the task of this number.
     Unanswered(u32),
     /// The command line of this request has run. What it printed, so many runes, stands in the command file from that place on, and is
-    /// loaded: [`Client::text`] of tag 0 returns it.
+    /// loaded: [`Shown::text`] of tag 0 returns it.
     Ran { request: u64, place: u32, count: u32 },
     /// The session is over, and the request of this number never acts, or its command line has no answer.
     Lapsed(u64),
@@ -75,7 +70,7 @@ impl ClientEvent {
 /// own. A replacement makes no splice. A connection that breaks takes nothing of what the user did.
 ///
 /// ```
-/// use sulgrevad::{Client, ClientEvent, Event, Host, Link, Role, Tick};
+/// use sulgrevad::{Client, ClientEvent, Clocked, Event, Host, Link, Role, Shown, Tick};
 ///
 /// let (mut host, mut link) = (Host::new()?, Link::new(Role::Host, [7; 16])?);
 /// let file = host.add_file("notes", "")?;
@@ -126,90 +121,22 @@ impl ClientEvent {
 /// ```
 #[derive(Debug)]
 pub struct Client {
-    // Each call writes to the handle, those that only read included.
-    handle: Box<UnsafeCell<sam_client>>,
+    pub(crate) handle: Held<sam_client>,
 }
-
-// A handle shares nothing with another, and each call has it alone.
-unsafe impl Send for Client {}
 
 impl Client {
     /// Makes a client that knows no file, and whose first connection is due at once. The id is the session's name: 16 bytes that the
     /// terminal chose at random. It is no secret. With `take_over`, the session is to begin with the texts of another, as long as no host
     /// has welcomed this client. Then ask for `OfferVersion`. Its only error is `NoMemory`.
     pub fn new(id: [u8; sys::SAM_LINK_ID_BYTES], take_over: bool, now: u64) -> Result<Client, Error> {
-        let handle = Box::new(UnsafeCell::new(sam_client::INIT));
-        done(unsafe { sys::sam_client_new(handle.get(), id.as_ptr(), take_over, now) })?;
+        let handle = Held::made(sam_client::INIT, sys::sam_client_free, |at| unsafe {
+            sys::sam_client_new(at, id.as_ptr(), take_over, now)
+        })?;
         Ok(Client { handle })
     }
 
     fn at(&self) -> *mut sam_client {
-        self.handle.get()
-    }
-
-    /// Returns what the program is to do at this time. What it returns counts as begun: another call at the same time returns something
-    /// else, so call it until it returns `Nothing`. At `Ask` go on: that asks the host.
-    pub fn tick(&mut self, now: u64) -> Tick {
-        Tick::of(tells(|tick| unsafe { sys::sam_client_tick(self.at(), now, tick) }))
-    }
-
-    /// Returns the number of milliseconds until `tick` or `next_event` has something to do, if no other call comes before; `None` if
-    /// neither ever has.
-    pub fn due_in(&self, now: u64) -> Option<u64> {
-        told(|left| unsafe { sys::sam_client_due_in(self.at(), now, left) })
-    }
-
-    /// Takes a connection that the program has opened: the connection before is over. Returns its number, counted from 1, which names it in
-    /// the calls below. The error is `CountFull`, after 2^64-1 connections.
-    pub fn connected(&mut self, now: u64) -> Result<u64, Error> {
-        let mut attempt = 0;
-        done(unsafe { sys::sam_client_connected(self.at(), now, &mut attempt) })?;
-        Ok(attempt)
-    }
-
-    /// Gives up the connection for which `Connect` asked, because it can't be made: another is tried after a pause. At any other time it
-    /// changes nothing.
-    pub fn not_connected(&mut self, now: u64) {
-        unsafe { sys::sam_client_not_connected(self.at(), now) };
-    }
-
-    /// Ends a connection, because it broke or because the program gives it up: another is tried after a pause. Nothing changes if it isn't
-    /// the newest, or is over already.
-    pub fn broken(&mut self, attempt: u64, now: u64) {
-        unsafe { sys::sam_client_broken(self.at(), attempt, now) };
-    }
-
-    /// Doubts an open connection, because an address of the machine came or went. Then go on: the host is asked, and if no byte comes the
-    /// connection is given up after 2 seconds.
-    pub fn address_changed(&mut self, now: u64) {
-        unsafe { sys::sam_client_address_changed(self.at(), now) };
-    }
-
-    /// Notes whether the program waits for an answer to a note of its own: a host that doesn't answer is found out then. While a task is
-    /// open, an event is held or something is locked, the client waits in any case.
-    pub fn expect(&mut self, expects: bool, now: u64) {
-        unsafe { sys::sam_client_expect(self.at(), expects, now) };
-    }
-
-    /// Takes bytes that came on a connection, from its first one on, in pieces of any length, all or none. Then go on. Its errors are those
-    /// of [`Line::receive`](crate::Line::receive), in its order.
-    pub fn receive(&mut self, attempt: u64, bytes: &[u8], now: u64) -> Result<(), Error> {
-        done(unsafe { sys::sam_client_receive(self.at(), attempt, bytes.as_ptr(), bytes.len(), now) })
-    }
-
-    /// Moves the next bytes for a connection into the buffer, and returns their number: first the hello, and then the stream from the place
-    /// where this connection goes on. Go on before, so that all is there. The error is `Link(NotOpen)` if the connection is over or isn't
-    /// the newest.
-    pub fn take_out(&mut self, attempt: u64, into: &mut [u8]) -> Result<usize, Error> {
-        let mut count = 0;
-        done(unsafe { sys::sam_client_take_out(self.at(), attempt, into.as_mut_ptr(), into.len(), &mut count) })?;
-        Ok(count)
-    }
-
-    /// Acknowledges all bytes that have come. The client does so by itself when it is asked, and after each 16,384 bytes. Errors, in this
-    /// order: `CountFull`; `NoMemory`.
-    pub fn acknowledge(&mut self) -> Result<(), Error> {
-        done(unsafe { sys::sam_client_acknowledge(self.at()) })
+        self.handle.at()
     }
 
     /// Goes on until there is something to tell, and returns it. Call it after each call that brought something, until it returns `Idle`,
@@ -243,35 +170,12 @@ impl Client {
         Ok(ClientEvent::Busy)
     }
 
-    /// Returns the next change of the shown text by the last step; `None` if none is left.
-    pub fn next_splice(&mut self) -> Option<Splice> {
-        told(|splice| unsafe { sys::sam_client_next_splice(self.at(), splice) }).map(Splice::of)
-    }
-
-    /// Returns the changes of `next_splice`, up to the last.
-    pub fn splices(&mut self) -> impl Iterator<Item = Splice> + '_ {
-        std::iter::from_fn(|| self.next_splice())
-    }
-
     /// Returns the note that was told last; an empty one before the first.
     pub fn note(&self) -> Vec<u8> {
         let mut note = vec![0; MOST_NOTE];
         let len = tells(|len| unsafe { sys::sam_client_note(self.at(), note.as_mut_ptr(), note.len(), len) });
         note.truncate(len);
         note
-    }
-
-    /// Puts a note for the host's program. It comes out behind the edits and events that have acted, and before those that wait. Errors,
-    /// in this order, and the note is not put then: `Link(TooLong)` for more than 4,096 bytes; `CountFull`; `NoMemory`.
-    pub fn put_note(&mut self, bytes: &[u8], now: u64) -> Result<(), Error> {
-        done(unsafe { sys::sam_client_put_note(self.at(), bytes.as_ptr(), bytes.len(), now) })
-    }
-
-    /// Replaces the shown runes from the place `start` to the place `end` by a text of any length, all or nothing. The new runes stand
-    /// behind what is shown before `start`. They are shown at once, whatever is locked, and go to the host as the client goes on; no
-    /// request that was asked for before finds them. Its errors are those of [`Overlay::replace`](crate::Overlay::replace), in its order.
-    pub fn replace(&mut self, tag: u16, start: u32, end: u32, text: &str) -> Result<(), Error> {
-        done(unsafe { sys::sam_client_replace(self.at(), tag, start, end, text.as_ptr(), text.len()) })
     }
 
     /// Makes replacements one after another, each as `replace` does, by one call: the places of each are those of the text that the ones
@@ -286,28 +190,6 @@ impl Client {
             all?;
         }
         Ok(made)
-    }
-
-    /// Asks for what is no edit. It stands in one order with the edits: it acts as the client goes on, once all edits before it are put,
-    /// and finds the text that is shown now, with the host's changes since. A place that it names moves with that text: what the host puts
-    /// in at the place itself stands behind it, and a range of which all goes is empty there; a place past the end of the text stays.
-    /// Returns the number of the request, by which `next_event` tells once that it acted, was refused, or lapsed where the session is over;
-    /// a write that would find the same text as one that waits is that one, and has its number. Errors, in this order, and the client is
-    /// then as it was: `NoMemory`, if it brings a text; `Waiting` while an edit was put that has not acted: go on first; `TooMany` if 1,000
-    /// requests wait; `CountFull`; `NoMemory`.
-    pub fn ask(&mut self, event: Event<'_>) -> Result<u64, Error> {
-        let (text, mut number) = (event.text(), 0);
-        done(unsafe { sys::sam_client_ask(self.at(), &event.numbers(), text.as_ptr(), text.len(), &mut number) })?;
-        Ok(number)
-    }
-
-    /// Takes back the next insertion that waits over a file, if an edit could act at once and the file has no room for this one, because
-    /// the host put more in meanwhile. Returns it; `None` if nothing is to be taken back. Errors, in this order, and the client is then as
-    /// it was: `Waiting` if splices are left; `NoMemory`.
-    pub fn drop_next(&mut self, tag: u16) -> Result<Option<Dropped>, Error> {
-        Dropped::taken(self.waiting(tag), |splice, into, len| unsafe {
-            sys::sam_client_drop_next(self.at(), tag, splice, into.as_mut_ptr(), into.len(), len)
-        })
     }
 
     /// Has the host's program do something, and returns the number of the task, counted from 1: `Open`, to join the file or the folder at a
@@ -375,108 +257,5 @@ impl Client {
     /// for tag 0.
     pub fn is_unsaved(&self, tag: u16) -> bool {
         tells(|unsaved| unsafe { sys::sam_client_is_unsaved(self.at(), tag, unsaved) })
-    }
-
-    /// Returns the number of requests that wait, those not among them that the terminal has.
-    pub fn requests(&self) -> usize {
-        tells(|count| unsafe { sys::sam_client_requests(self.at(), count) })
-    }
-
-    /// Returns the state, the counts and the times of the line to the host. Its `has_all` speaks of the line alone.
-    pub fn describe(&self, now: u64) -> LineDetails {
-        LineDetails::of(&tells(|details| unsafe { sys::sam_client_describe(self.at(), now, details) }))
-    }
-
-    /// Returns the words that came on the newest connection before the host's hello, perhaps of a login. They need be no text.
-    pub fn words(&self) -> Vec<u8> {
-        words_of(|into, len| unsafe { sys::sam_client_words(self.at(), into.as_mut_ptr(), into.len(), len) })
-    }
-
-    /// Returns the number of bytes of the host's stream before the frame that is wrong, if the terminal has stopped by `Stream`; `None` if
-    /// it goes on, or has stopped because of a refusal.
-    pub fn fault_place(&self) -> Option<u64> {
-        told(|place| unsafe { sys::sam_client_fault_place(self.at(), place) })
-    }
-
-    /// Returns the state of the terminal by one call.
-    pub fn state(&self) -> TermState {
-        TermState::of(&tells(|value| unsafe { sys::sam_client_state(self.at(), value) }))
-    }
-
-    /// Returns the state of a file by one call. A tag without a file is no error. Length, dot and view are those of the terminal's text.
-    pub fn file(&self, tag: u16) -> FileState {
-        FileState::of(&tells(|value| unsafe { sys::sam_client_file(self.at(), tag, value) }))
-    }
-
-    /// Returns the name of a known file; `None` if the tag is not known.
-    pub fn name(&self, tag: u16) -> Option<String> {
-        short_text(|into, len| unsafe { sys::sam_client_name(self.at(), tag, into.as_mut_ptr(), into.len(), len) })
-    }
-
-    /// Returns the tag of the file that the host's answer to `Work` or `NewFile` named last; `None` before the first. The file may be
-    /// closed since.
-    pub fn current(&self) -> Option<u16> {
-        told(|value| unsafe { sys::sam_client_current(self.at(), value) })
-    }
-
-    /// Returns the pattern that the host reported last.
-    pub fn pattern(&self) -> String {
-        short_text(|into, len| unsafe { sys::sam_client_pattern(self.at(), into.as_mut_ptr(), into.len(), len) })
-            .expect("the handle is made")
-    }
-
-    /// Returns the snarfed text that the host sent last (`GetSnarf`). It may be only the front of the host's buffer, because at most 4,096
-    /// bytes come, or 32,000 in version 2.
-    pub fn snarfed(&self) -> String {
-        whole_text(|place, into, bytes, runes| unsafe {
-            sys::sam_client_snarfed(self.at(), place, into.as_mut_ptr(), into.len(), bytes, runes)
-        })
-        .expect("the handle is made")
-    }
-
-    /// Returns the number of runes that wait over a file, those that a later edit takes out among them. It is 0 if the file is not open, or
-    /// if only what takes runes out waits.
-    pub fn waiting(&self, tag: u16) -> u32 {
-        tells(|value| unsafe { sys::sam_client_waiting(self.at(), tag, value) })
-    }
-
-    /// Returns the first file from the tag `from` on over which an edit waits, also one that only takes runes out; `None` if there is none.
-    pub fn next_waiting(&self, from: u16) -> Option<u16> {
-        told(|tag| unsafe { sys::sam_client_next_waiting(self.at(), from, tag) })
-    }
-
-    /// Returns the first place of the shown text of a file, at or after `place`, whose rune is not loaded; `None` if the file is not open,
-    /// or if all are loaded from there on.
-    pub fn first_gap(&self, tag: u16, place: u32) -> Option<u32> {
-        told(|gap| unsafe { sys::sam_client_first_gap(self.at(), tag, place, gap) })
-    }
-
-    /// Returns the length of the shown text of an open file in runes, gaps counted; `None` if the file is not open.
-    pub fn len(&self, tag: u16) -> Option<u32> {
-        told(|value| unsafe { sys::sam_client_len(self.at(), tag, value) })
-    }
-
-    /// Returns the shown runes of an open file from the place `place` on, at most `most`: in it `None` for each that is not loaded. Returns
-    /// `None` if the file is not open.
-    pub fn read(&self, tag: u16, place: u32, most: usize) -> Option<Vec<Option<char>>> {
-        let most = most.min(self.len(tag)?.saturating_sub(place) as usize);
-        let mut runes = vec![0; most];
-        let count: u32 = told(|count| unsafe { sys::sam_client_read(self.at(), tag, place, runes.as_mut_ptr(), most, count) })?;
-        runes.truncate(count as usize);
-        Some(shown(runes))
-    }
-
-    /// Returns the shown text of an open file from the place `place` on, up to the first rune that is not loaded; `None` if the file is not
-    /// open.
-    pub fn text(&self, tag: u16, place: u32) -> Option<String> {
-        part_of_text(place, u32::MAX, |place, into, bytes, runes| unsafe {
-            sys::sam_client_text(self.at(), tag, place, into.as_mut_ptr(), into.len(), bytes, runes)
-        })
-    }
-}
-
-impl Drop for Client {
-    fn drop(&mut self) {
-        unsafe { sys::sam_client_free(self.at()) };
     }
 }

@@ -1,8 +1,8 @@
 //! The host: whole texts, commands, and the answers to a terminal's messages.
 
+use crate::handle::Held;
 use crate::step::host_step;
 use crate::{done, part_of_text, short_text, tells, told, whole_text, Error, HostStep, PIECE};
-use std::cell::UnsafeCell;
 use sulgrevad_sys::{self as sys, sam_did, sam_host};
 
 /// A host. It is dropped with its pending bytes. A thread may hand it to another, but two can't share it:
@@ -18,23 +18,18 @@ use sulgrevad_sys::{self as sys, sam_did, sam_host};
 /// ```
 #[derive(Debug)]
 pub struct Host {
-    // Each call writes to the handle, those that only read included.
-    handle: Box<UnsafeCell<sam_host>>,
+    handle: Held<sam_host>,
 }
-
-// A handle shares nothing with another, and each call has it alone.
-unsafe impl Send for Host {}
 
 impl Host {
     /// Makes a host with the command file alone (tag 0). Its only error is `NoMemory`.
     pub fn new() -> Result<Host, Error> {
-        let handle = Box::new(UnsafeCell::new(sam_host::INIT));
-        done(unsafe { sys::sam_host_new(handle.get()) })?;
+        let handle = Held::made(sam_host::INIT, sys::sam_host_free, |at| unsafe { sys::sam_host_new(at) })?;
         Ok(Host { handle })
     }
 
     fn at(&self) -> *mut sam_host {
-        self.handle.get()
+        self.handle.at()
     }
 
     /// Adds a file, clean and closed, and returns its tag: 1 for the first, 2 for the next, and so on. A program may call it at any time:
@@ -213,11 +208,5 @@ impl Host {
     pub fn dot(&self, tag: u16) -> Option<(u32, u32)> {
         let mut end = 0;
         told(|start| unsafe { sys::sam_host_dot(self.at(), tag, start, &mut end) }).map(|start| (start, end))
-    }
-}
-
-impl Drop for Host {
-    fn drop(&mut self) {
-        unsafe { sys::sam_host_free(self.at()) };
     }
 }

@@ -2,6 +2,7 @@
 //! An [`Overlay`] is a terminal for an editor that takes each key at once: what its user does is shown while it waits.
 //! A [`Client`] is that and its line to the host, for a front end whose connections may break; a [`Session`] also makes and reads them.
 //! A [`Link`] carries the bytes of both over connections that may break; a [`Line`] also says when a terminal is to connect.
+//! What overlay and client share are methods of the trait [`Shown`], and what line and client share those of [`Clocked`]: import these.
 //! A [`DurableServer`] is a host with its end of a link, which goes on after a crash from records of what it took.
 //! `sulgrevad.h` and the page EMBEDDING of the repository have the whole story, and `sulgrevad-sys` says how the library is found.
 //!
@@ -43,8 +44,10 @@
 //! ```
 
 mod client;
+mod clocked;
 mod edits;
 mod error;
+mod handle;
 mod host;
 mod line;
 mod link;
@@ -53,10 +56,12 @@ mod overlay;
 mod script;
 mod server;
 mod session;
+mod shown;
 mod step;
 mod terminal;
 
 pub use client::{Client, ClientEvent};
+pub use clocked::Clocked;
 pub use edits::{Replacement, ShownEdit};
 pub use error::{Error, HostFault, LinkFault, NoteFault, Refusal, ServerFault, StreamFault, TermFault};
 pub use host::Host;
@@ -67,6 +72,7 @@ pub use overlay::{Dropped, Event, Overlay, Put, Splice, SpliceKind, Turn};
 pub use script::replay;
 pub use server::{recover, DurableServer, Effect, Recovery};
 pub use session::{Session, SessionError, Waker, WriteHalf};
+pub use shown::{Shown, Splices};
 pub use step::{HostStep, NextFrame, TermStep};
 pub use terminal::{Change, FileState, TermState, Terminal};
 

@@ -1,20 +1,12 @@
 //! The terminal's end of a link, with the clock of its connections.
 
+use crate::handle::Held;
 use crate::link::MOST_NOTE;
-use crate::{done, tells, told, Error, LinkFault};
-use std::cell::UnsafeCell;
+use crate::{done, tells, Error, LinkFault};
 use sulgrevad_sys::{self as sys, sam_line};
 
 /// The most bytes that may come before the host's hello.
-const MOST_WORDS: usize = 65_536;
-
-/// Returns the words that a reader copies.
-pub(crate) fn words_of(read: impl FnOnce(&mut [u8], &mut usize) -> u32) -> Vec<u8> {
-    let mut words = vec![0; MOST_WORDS];
-    let count = tells(|len| read(&mut words, len));
-    words.truncate(count);
-    words
-}
+pub(crate) const MOST_WORDS: usize = 65_536;
 
 /// What a program is to do for its line.
 #[derive(Clone, Copy, Debug, PartialEq, Eq)]
@@ -44,7 +36,7 @@ impl Tick {
 /// The state of a line.
 #[derive(Clone, Copy, Debug, PartialEq, Eq)]
 pub enum LineState {
-    /// There is no connection; the next is tried when [`Line::due_in`] says.
+    /// There is no connection; the next is tried when [`due_in`](crate::Clocked::due_in) says.
     Down,
     /// One is being made, or waits for the host's hello; it is given up after 30 seconds.
     Connecting,
@@ -122,7 +114,7 @@ impl LineDetails {
 /// time below the greatest that was handed in counts as the greatest. A put, a note and a piece are taken whole or not at all.
 ///
 /// ```
-/// use sulgrevad::{Line, LineState, Link, Role, Tick};
+/// use sulgrevad::{Clocked, Line, LineState, Link, Role, Tick};
 ///
 /// let mut line = Line::new([7; 16], false, 0)?;
 /// let mut host = Link::new(Role::Host, [7; 16])?;
@@ -141,69 +133,20 @@ impl LineDetails {
 /// ```
 #[derive(Debug)]
 pub struct Line {
-    // Each call writes to the handle, those that only read included.
-    handle: Box<UnsafeCell<sam_line>>,
+    pub(crate) handle: Held<sam_line>,
 }
-
-// A handle shares nothing with another, and each call has it alone.
-unsafe impl Send for Line {}
 
 impl Line {
     /// Makes a line, whose first connection is due at once. The id is the session's name: 16 bytes that the terminal chose at random. It is
     /// no secret. With `take_over`, the session is to begin with the texts of another, as long as no host has welcomed this line. Its only
     /// error is `NoMemory`.
     pub fn new(id: [u8; sys::SAM_LINK_ID_BYTES], take_over: bool, now: u64) -> Result<Line, Error> {
-        let handle = Box::new(UnsafeCell::new(sam_line::INIT));
-        done(unsafe { sys::sam_line_new(handle.get(), id.as_ptr(), take_over, now) })?;
+        let handle = Held::made(sam_line::INIT, sys::sam_line_free, |at| unsafe { sys::sam_line_new(at, id.as_ptr(), take_over, now) })?;
         Ok(Line { handle })
     }
 
     fn at(&self) -> *mut sam_line {
-        self.handle.get()
-    }
-
-    /// Returns what the program is to do at this time. What it returns counts as begun: another call at the same time returns something
-    /// else, so call it until it returns `Nothing`.
-    pub fn tick(&mut self, now: u64) -> Tick {
-        Tick::of(tells(|tick| unsafe { sys::sam_line_tick(self.at(), now, tick) }))
-    }
-
-    /// Returns the number of milliseconds until `tick` has something to say, if no other call comes before; `None` if it never has.
-    pub fn due_in(&self, now: u64) -> Option<u64> {
-        told(|left| unsafe { sys::sam_line_due_in(self.at(), now, left) })
-    }
-
-    /// Takes a connection that the program has opened: the connection before is over. Returns its number, counted from 1, which names it in
-    /// the calls below. The error is `CountFull`, after 2^64-1 connections.
-    pub fn connected(&mut self, now: u64) -> Result<u64, Error> {
-        let mut attempt = 0;
-        done(unsafe { sys::sam_line_connected(self.at(), now, &mut attempt) })?;
-        Ok(attempt)
-    }
-
-    /// Gives up the connection for which `Connect` asked, because it can't be made: another is tried after a pause. At any other time it
-    /// changes nothing.
-    pub fn not_connected(&mut self, now: u64) {
-        unsafe { sys::sam_line_not_connected(self.at(), now) };
-    }
-
-    /// Ends a connection, because it broke or because the program gives it up: another is tried after a pause. Nothing changes if it isn't
-    /// the newest, or is over already.
-    pub fn broken(&mut self, attempt: u64, now: u64) {
-        unsafe { sys::sam_line_broken(self.at(), attempt, now) };
-    }
-
-    /// Doubts an open connection, because an address of the machine came or went: it is late, so call `ask`, and if no byte comes it is
-    /// given up after 2 seconds. A connection that is to be made is tried after 1 second at most.
-    pub fn address_changed(&mut self, now: u64) {
-        unsafe { sys::sam_line_address_changed(self.at(), now) };
-    }
-
-    /// Notes whether the program waits for an answer of the host's program, as to a request: that holds over all connections, until another
-    /// call says otherwise. While the program waits an answer is due, though the host has acknowledged all that was put: if no byte comes
-    /// for 15 seconds, the connection is late, so call `ask`, and if none comes for 15 more, it is given up.
-    pub fn expect(&mut self, expects: bool, now: u64) {
-        unsafe { sys::sam_line_expect(self.at(), expects, now) };
+        self.handle.at()
     }
 
     /// Puts bytes for the host's program, all or none, with or without a connection. Errors, in this order: `CountFull`; `NoMemory`.
@@ -211,40 +154,10 @@ impl Line {
         done(unsafe { sys::sam_line_put(self.at(), bytes.as_ptr(), bytes.len(), now) })
     }
 
-    /// Puts a note behind all bytes that were put: it comes out after these bytes and before later ones. Errors, in this order:
-    /// `Link(TooLong)` for more than 4,096 bytes; `CountFull`; `NoMemory`.
-    pub fn put_note(&mut self, bytes: &[u8], now: u64) -> Result<(), Error> {
-        done(unsafe { sys::sam_line_put_note(self.at(), bytes.as_ptr(), bytes.len(), now) })
-    }
-
     /// Asks the host whether all has come, if something that was put is not acknowledged, or the line is late; but not while such a
     /// question is under way. So it may be called after each put and each piece. Errors, in this order: `CountFull`; `NoMemory`.
     pub fn ask(&mut self, now: u64) -> Result<(), Error> {
         done(unsafe { sys::sam_line_ask(self.at(), now) })
-    }
-
-    /// Acknowledges all bytes that have come. The line does so by itself when it is asked, and after each 16,384 bytes. Errors, in this
-    /// order: `CountFull`; `NoMemory`.
-    pub fn acknowledge(&mut self) -> Result<(), Error> {
-        done(unsafe { sys::sam_line_acknowledge(self.at()) })
-    }
-
-    /// Moves the next bytes for a connection into the buffer, and returns their number: first the hello, and then the stream from the place
-    /// where this connection goes on. Call it after each put, question and piece. The error is `Link(NotOpen)` if the connection is over or
-    /// isn't the newest.
-    pub fn take_out(&mut self, attempt: u64, into: &mut [u8]) -> Result<usize, Error> {
-        let mut count = 0;
-        done(unsafe { sys::sam_line_take_out(self.at(), attempt, into.as_mut_ptr(), into.len(), &mut count) })?;
-        Ok(count)
-    }
-
-    /// Takes bytes that came on a connection, from its first one on, in pieces of any length, all or none. Errors of `Link`, in this order:
-    /// `NotOpen` if the connection is over or isn't the newest; `TooManyAnswers`; before the host's welcome `TooManyWords`, `WrongHello`,
-    /// and the host's reason, if it refuses; then the error `CountFull`, and of `Link` `BadKind`, `BadLength`, `AckAhead`. After each of
-    /// these but the first the connection is over. `NoMemory` may come at any place: the connection stays, and the same bytes are to be
-    /// given again.
-    pub fn receive(&mut self, attempt: u64, bytes: &[u8], now: u64) -> Result<(), Error> {
-        done(unsafe { sys::sam_line_receive(self.at(), attempt, bytes.as_ptr(), bytes.len(), now) })
     }
 
     /// Moves the next bytes of the host's program into the buffer, those of one packet at most, and returns their number: 0 if a note is
@@ -260,21 +173,5 @@ impl Line {
         let status = unsafe { sys::sam_line_next_note(self.at(), note.as_mut_ptr(), note.len(), &mut len) };
         note.truncate(len);
         (status == sys::SAM_OK).then_some(note)
-    }
-
-    /// Returns the state, the counts and the times of the line.
-    pub fn describe(&self, now: u64) -> LineDetails {
-        LineDetails::of(&tells(|details| unsafe { sys::sam_line_describe(self.at(), now, details) }))
-    }
-
-    /// Returns the words that came on the newest connection before the host's hello, perhaps of a login. They need be no text.
-    pub fn words(&self) -> Vec<u8> {
-        words_of(|into, len| unsafe { sys::sam_line_words(self.at(), into.as_mut_ptr(), into.len(), len) })
-    }
-}
-
-impl Drop for Line {
-    fn drop(&mut self) {
-        unsafe { sys::sam_line_free(self.at()) };
     }
 }

@@ -1,7 +1,7 @@
 //! One end of a link, which carries bytes and notes over connections that may break, and hellos.
 
+use crate::handle::Held;
 use crate::{done, tells, Error, LinkFault};
-use std::cell::UnsafeCell;
 use sulgrevad_sys::{self as sys, sam_link};
 
 /// The place of bytes in a piece: `len` of them, behind its first `start`.
@@ -121,24 +121,19 @@ pub fn write_refusal(why: LinkFault, bytes: &[u8]) -> Option<[u8; HELLO_BYTES]> 
 /// ```
 #[derive(Debug)]
 pub struct Link {
-    // Each call writes to the handle, those that only read included.
-    handle: Box<UnsafeCell<sam_link>>,
+    handle: Held<sam_link>,
 }
-
-// A handle shares nothing with another, and each call has it alone.
-unsafe impl Send for Link {}
 
 impl Link {
     /// Makes the end of one side, before its first connection. The id is the session's name: 16 bytes that the terminal chose at random. It
     /// is no secret. Its only error is `NoMemory`.
     pub fn new(role: Role, id: [u8; sys::SAM_LINK_ID_BYTES]) -> Result<Link, Error> {
-        let handle = Box::new(UnsafeCell::new(sam_link::INIT));
-        done(unsafe { sys::sam_link_new(handle.get(), role as u32, id.as_ptr()) })?;
+        let handle = Held::made(sam_link::INIT, sys::sam_link_free, |at| unsafe { sys::sam_link_new(at, role as u32, id.as_ptr()) })?;
         Ok(Link { handle })
     }
 
     fn at(&self) -> *mut sam_link {
-        self.handle.get()
+        self.handle.at()
     }
 
     /// Begins a connection that the program has opened, at the terminal's end: the connection before is over. Returns its number, counted
@@ -278,11 +273,5 @@ impl Link {
     /// Returns the number of bytes of the other side's stream that have come.
     pub fn received(&self) -> u64 {
         tells(|count| unsafe { sys::sam_link_received(self.at(), count) })
-    }
-}
-
-impl Drop for Link {
-    fn drop(&mut self) {
-        unsafe { sys::sam_link_free(self.at()) };
     }
 }

@@ -1,9 +1,8 @@
 //! A terminal whose user never waits: the edits that wait are shown over its texts.
 
+use crate::handle::Held;
 use crate::step::term_step;
-use crate::terminal::shown;
-use crate::{done, part_of_text, short_text, tells, told, whole_text, Error, FileState, Refusal, TermState, TermStep, PIECE};
-use std::cell::UnsafeCell;
+use crate::{done, tells, told, Error, Refusal, TermStep, PIECE};
 use sulgrevad_sys::{self as sys, sam_did, sam_event, sam_overlay, sam_splice};
 
 /// What a splice does.
@@ -198,7 +197,7 @@ impl<'a> Event<'a> {
 /// own, and its places are always right. A replacement makes no splice.
 ///
 /// ```
-/// use sulgrevad::{Event, Host, Overlay, Put, TermStep, Turn};
+/// use sulgrevad::{Event, Host, Overlay, Put, Shown, TermStep, Turn};
 ///
 /// let mut host = Host::new()?;
 /// let file = host.add_file("notes", "")?;
@@ -244,34 +243,18 @@ impl<'a> Event<'a> {
 /// ```
 #[derive(Debug)]
 pub struct Overlay {
-    // Each call writes to the handle, those that only read included.
-    handle: Box<UnsafeCell<sam_overlay>>,
+    pub(crate) handle: Held<sam_overlay>,
 }
-
-// A handle shares nothing with another, and each call has it alone.
-unsafe impl Send for Overlay {}
 
 impl Overlay {
     /// Makes an overlay over a terminal that knows no file. Its only error is `NoMemory`.
     pub fn new() -> Result<Overlay, Error> {
-        let handle = Box::new(UnsafeCell::new(sam_overlay::INIT));
-        done(unsafe { sys::sam_overlay_new(handle.get()) })?;
+        let handle = Held::made(sam_overlay::INIT, sys::sam_overlay_free, |at| unsafe { sys::sam_overlay_new(at) })?;
         Ok(Overlay { handle })
     }
 
     fn at(&self) -> *mut sam_overlay {
-        self.handle.get()
-    }
-
-    /// Replaces the shown runes from the place `start` to the place `end` by a text of any length, all or nothing. The new runes stand
-    /// behind what is shown before `start`. They are shown at once, and wait for `put_next`; no lock refuses them, and no request that was
-    /// asked for before finds them. Errors, in this order, and the overlay is then as it was: `NoMemory`; `Waiting` if splices are left;
-    /// `Edit(Exited)` if a request waits that ends the session; `Edit(NotOpen)` if one waits that closes the file; `Edit(Exited)` if the
-    /// session is over; why the terminal has stopped before (`Stream`, `TermRefused`); `Edit` with `NoFile`, `CommandFile` for tag 0,
-    /// `NotOpen`, `BadPosition` for a range that the shown text doesn't have, `TooLong` if these runes, the terminal's text and all that
-    /// waits over it are more than 1,000,000; `NoMemory`, also while an edit of the file was put that has not acted.
-    pub fn replace(&mut self, tag: u16, start: u32, end: u32, text: &str) -> Result<(), Error> {
-        done(unsafe { sys::sam_overlay_replace(self.at(), tag, start, end, text.as_ptr(), text.len()) })
+        self.handle.at()
     }
 
     /// Puts the next edit of those that wait over a file as an event, if it can act at once and stands behind no request of the file or of
@@ -288,27 +271,6 @@ impl Overlay {
         })
     }
 
-    /// Takes back the next insertion that waits over a file, if an edit could act at once and the file has no room for this one: that is
-    /// where `put_next` returns `Edit(TooLong)`. Returns it; `None` if nothing is to be taken back. Errors, in this order, and the overlay
-    /// is then as it was: `Waiting` if splices are left; `NoMemory`.
-    pub fn drop_next(&mut self, tag: u16) -> Result<Option<Dropped>, Error> {
-        Dropped::taken(self.waiting(tag), |splice, into, len| unsafe {
-            sys::sam_overlay_drop_next(self.at(), tag, splice, into.as_mut_ptr(), into.len(), len)
-        })
-    }
-
-    /// Asks for what is no edit. It stands in one order with the edits: it acts by `act_next`, once all edits before it are put, and finds
-    /// the text that is shown now, with the host's changes since. A place that it names moves with that text, as for
-    /// [`Client::ask`](crate::Client::ask). Returns the number of the request, by which `step` tells once that it acted or was refused; a
-    /// write that would find the same text as one that waits is that one, and has its number. Errors, in this order, and the overlay is
-    /// then as it was: `NoMemory`, if it brings a text; `Waiting` while an edit was put that has not acted: make a step first; `TooMany` if
-    /// 1,000 requests wait; `CountFull`; `NoMemory`.
-    pub fn ask(&mut self, event: Event<'_>) -> Result<u64, Error> {
-        let (text, mut number) = (event.text(), 0);
-        done(unsafe { sys::sam_overlay_ask(self.at(), &event.numbers(), text.as_ptr(), text.len(), &mut number) })?;
-        Ok(number)
-    }
-
     /// Has the oldest request act, if all edits before it are put and it can act at once, and returns what became of it. Call it before
     /// `put_next`, and make a step, as long as it returns `Request`. Its errors are those of `put_next`, in its order, without
     /// `Edit(TooLong)`.
@@ -320,11 +282,6 @@ impl Overlay {
             sys::SAM_TURN_NOT_YET => Turn::NotYet,
             _ => Turn::Request,
         })
-    }
-
-    /// Returns the number of requests that wait, those not among them that the terminal has.
-    pub fn requests(&self) -> usize {
-        tells(|count| unsafe { sys::sam_overlay_requests(self.at(), count) })
     }
 
     /// Takes an event beside the requests that wait, which stay; `step` has it act. An event acts on the terminal's text, so put all that
@@ -353,25 +310,9 @@ impl Overlay {
         Ok((term_step(&did), (did.request != 0).then_some(did.request)))
     }
 
-    /// Returns the next change of the shown text by the last step; `None` if none is left.
-    pub fn next_splice(&mut self) -> Option<Splice> {
-        told(|splice| unsafe { sys::sam_overlay_next_splice(self.at(), splice) }).map(Splice::of)
-    }
-
-    /// Returns the changes of `next_splice`, up to the last.
-    pub fn splices(&mut self) -> impl Iterator<Item = Splice> + '_ {
-        std::iter::from_fn(|| self.next_splice())
-    }
-
     /// Tests whether the host's stream may end here, as `finish` of a terminal does, with its errors. It changes nothing.
     pub fn finish(&self) -> Result<(), Error> {
         done(unsafe { sys::sam_overlay_finish(self.at()) })
-    }
-
-    /// Returns the number of bytes of the host's stream before the frame that is wrong, if the terminal has stopped by `Stream`; `None` if
-    /// it goes on, or has stopped because of a refusal.
-    pub fn fault_place(&self) -> Option<u64> {
-        told(|place| unsafe { sys::sam_overlay_fault_place(self.at(), place) })
     }
 
     /// Returns the number of pending bytes, which are for the host.
@@ -397,87 +338,5 @@ impl Overlay {
         let mut why = 0;
         let event = told(|event| unsafe { sys::sam_overlay_next_refusal(self.at(), event, &mut why) })?;
         Some((event, Refusal::of(why).ok_or(why)))
-    }
-
-    /// Returns the state of the terminal by one call.
-    pub fn state(&self) -> TermState {
-        TermState::of(&tells(|value| unsafe { sys::sam_overlay_state(self.at(), value) }))
-    }
-
-    /// Returns the state of a file by one call. A tag without a file is no error. Length, dot and view are those of the terminal's text.
-    pub fn file(&self, tag: u16) -> FileState {
-        FileState::of(&tells(|value| unsafe { sys::sam_overlay_file(self.at(), tag, value) }))
-    }
-
-    /// Returns the name of a known file; `None` if the tag is not known.
-    pub fn name(&self, tag: u16) -> Option<String> {
-        short_text(|into, len| unsafe { sys::sam_overlay_name(self.at(), tag, into.as_mut_ptr(), into.len(), len) })
-    }
-
-    /// Returns the tag of the file that the host's answer to `Work` or `NewFile` named last; `None` before the first. The file may be
-    /// closed since.
-    pub fn current(&self) -> Option<u16> {
-        told(|value| unsafe { sys::sam_overlay_current(self.at(), value) })
-    }
-
-    /// Returns the pattern that the host reported last.
-    pub fn pattern(&self) -> String {
-        short_text(|into, len| unsafe { sys::sam_overlay_pattern(self.at(), into.as_mut_ptr(), into.len(), len) })
-            .expect("the handle is made")
-    }
-
-    /// Returns the snarfed text that the host sent last (`GetSnarf`). It may be only the front of the host's buffer, because at most 4,096
-    /// bytes come, or 32,000 in version 2.
-    pub fn snarfed(&self) -> String {
-        whole_text(|place, into, bytes, runes| unsafe {
-            sys::sam_overlay_snarfed(self.at(), place, into.as_mut_ptr(), into.len(), bytes, runes)
-        })
-        .expect("the handle is made")
-    }
-
-    /// Returns the number of runes that wait over a file, those that a later edit takes out among them. It is 0 if the file is not open, or
-    /// if only what takes runes out waits.
-    pub fn waiting(&self, tag: u16) -> u32 {
-        tells(|value| unsafe { sys::sam_overlay_waiting(self.at(), tag, value) })
-    }
-
-    /// Returns the first file from the tag `from` on over which an edit waits, also one that only takes runes out; `None` if there is none.
-    pub fn next_waiting(&self, from: u16) -> Option<u16> {
-        told(|tag| unsafe { sys::sam_overlay_next_waiting(self.at(), from, tag) })
-    }
-
-    /// Returns the first place of the shown text of a file, at or after `place`, whose rune is not loaded; `None` if the file is not open,
-    /// or if all are loaded from there on.
-    pub fn first_gap(&self, tag: u16, place: u32) -> Option<u32> {
-        told(|gap| unsafe { sys::sam_overlay_first_gap(self.at(), tag, place, gap) })
-    }
-
-    /// Returns the length of the shown text of an open file in runes, gaps counted; `None` if the file is not open.
-    pub fn len(&self, tag: u16) -> Option<u32> {
-        told(|value| unsafe { sys::sam_overlay_len(self.at(), tag, value) })
-    }
-
-    /// Returns the shown runes of an open file from the place `place` on, at most `most`: in it `None` for each that is not loaded. Returns
-    /// `None` if the file is not open.
-    pub fn read(&self, tag: u16, place: u32, most: usize) -> Option<Vec<Option<char>>> {
-        let most = most.min(self.len(tag)?.saturating_sub(place) as usize);
-        let mut runes = vec![0; most];
-        let count: u32 = told(|count| unsafe { sys::sam_overlay_read(self.at(), tag, place, runes.as_mut_ptr(), most, count) })?;
-        runes.truncate(count as usize);
-        Some(shown(runes))
-    }
-
-    /// Returns the shown text of an open file from the place `place` on, up to the first rune that is not loaded; `None` if the file is not
-    /// open.
-    pub fn text(&self, tag: u16, place: u32) -> Option<String> {
-        part_of_text(place, u32::MAX, |place, into, bytes, runes| unsafe {
-            sys::sam_overlay_text(self.at(), tag, place, into.as_mut_ptr(), into.len(), bytes, runes)
-        })
-    }
-}
-
-impl Drop for Overlay {
-    fn drop(&mut self) {
-        unsafe { sys::sam_overlay_free(self.at()) };
     }
 }

@@ -1,8 +1,8 @@
 //! A durable server: a host with its end of a link, which goes on after a crash from records of what it took.
 
+use crate::handle::Held;
 use crate::{done, part_of_text, short_text, tells, told, whole_text, Error, HELLO_BYTES};
-use std::cell::UnsafeCell;
-use sulgrevad_sys::{self as sys, sam_effect, sam_recovery, sam_server};
+use sulgrevad_sys::{self as sys, sam_effect, sam_recovery, sam_server, sam_status};
 
 /// What the program of a server is asked to do.
 #[derive(Clone, Debug, PartialEq, Eq)]
@@ -55,24 +55,24 @@ pub enum Effect {
 /// ```
 #[derive(Debug)]
 pub struct DurableServer {
-    // Each call writes to the handle, those that only read included.
-    handle: Box<UnsafeCell<sam_server>>,
+    handle: Held<sam_server>,
 }
-
-// A handle shares nothing with another, and each call has it alone.
-unsafe impl Send for DurableServer {}
 
 impl DurableServer {
     /// Makes the server of a session without files (but the command file), before its first connection. The id is the session's name: 16
     /// bytes that the terminal chose at random. Its only error is `NoMemory`.
     pub fn new(id: [u8; sys::SAM_LINK_ID_BYTES]) -> Result<DurableServer, Error> {
-        let handle = Box::new(UnsafeCell::new(sam_server::INIT));
-        done(unsafe { sys::sam_server_new(handle.get(), id.as_ptr()) })?;
+        DurableServer::made(|at| unsafe { sys::sam_server_new(at, id.as_ptr()) })
+    }
+
+    /// Returns the server that a call makes.
+    fn made(make: impl FnOnce(*mut sam_server) -> sam_status) -> Result<DurableServer, Error> {
+        let handle = Held::made(sam_server::INIT, sys::sam_server_free, make)?;
         Ok(DurableServer { handle })
     }
 
     fn at(&self) -> *mut sam_server {
-        self.handle.get()
+        self.handle.at()
     }
 
     /// Adds a file, and returns its tag: 1 for the first, 2 for the next, and so on. Its own refusals: `TooLong`, `NoTag`. After
@@ -196,11 +196,7 @@ impl DurableServer {
     ///
     /// Errors, in this order: `Waiting`, for `go_on`; `Server(EffectWaits)` before an effect is done; `NoMemory`.
     pub fn heir(&self, id: [u8; sys::SAM_LINK_ID_BYTES]) -> Result<DurableServer, Error> {
-        let heir = DurableServer {
-            handle: Box::new(UnsafeCell::new(sam_server::INIT)),
-        };
-        done(unsafe { sys::sam_server_heir(self.at(), id.as_ptr(), heir.at()) })?;
-        Ok(heir)
+        DurableServer::made(|at| unsafe { sys::sam_server_heir(self.at(), id.as_ptr(), at) })
     }
 
     /// Returns whether the session is over: the terminal has sent Texit, or a command line was `q`.
@@ -302,55 +298,31 @@ impl DurableServer {
     }
 }
 
-impl Drop for DurableServer {
-    fn drop(&mut self) {
-        unsafe { sys::sam_server_free(self.at()) };
-    }
-}
-
 /// A durable server that is made again of its records, one by one; [`recover`] does it at once.
 #[derive(Debug)]
 pub struct Recovery {
-    handle: sam_recovery,
+    handle: Held<sam_recovery>,
 }
-
-// A handle shares nothing with another, and each call has it alone.
-unsafe impl Send for Recovery {}
 
 impl Recovery {
     /// Begins with the server of a session that has taken nothing. The id is that of the session whose records they are. Its only error is
     /// `NoMemory`.
     pub fn new(id: [u8; sys::SAM_LINK_ID_BYTES]) -> Result<Recovery, Error> {
-        let mut recovery = Recovery {
-            handle: sam_recovery::INIT,
-        };
-        done(unsafe { sys::sam_recovery_new(&mut recovery.handle, id.as_ptr()) })?;
-        Ok(recovery)
+        let handle = Held::made(sam_recovery::INIT, sys::sam_recovery_free, |at| unsafe { sys::sam_recovery_new(at, id.as_ptr()) })?;
+        Ok(Recovery { handle })
     }
 
     /// Takes the next record of the journal again. Errors, in this order: `Server(NoRecord)`; then `Server(NotTaken)` or `NoMemory`,
     /// whichever shows first. Nothing is left of the recovery then: begin anew.
-    pub fn take(mut self, body: &[u8]) -> Result<Recovery, Error> {
-        done(unsafe { sys::sam_recovery_take(&mut self.handle, body.as_ptr(), body.len()) })?;
+    pub fn take(self, body: &[u8]) -> Result<Recovery, Error> {
+        done(unsafe { sys::sam_recovery_take(self.handle.at(), body.as_ptr(), body.len()) })?;
         Ok(self)
     }
 
     /// Returns the server that goes on behind all these records. Its connection is over, and its records count as durable, so have the
     /// journal synced before: an effect that waits is to be done now. Its only error is `NoMemory`, with the recovery as it was.
-    pub fn finish(mut self) -> Result<DurableServer, (Error, Recovery)> {
-        let server = DurableServer {
-            handle: Box::new(UnsafeCell::new(sam_server::INIT)),
-        };
-        match done(unsafe { sys::sam_recovery_finish(&mut self.handle, server.at()) }) {
-            Ok(()) => Ok(server),
-            Err(why) => Err((why, self)),
-        }
-    }
-}
-
-impl Drop for Recovery {
-    fn drop(&mut self) {
-        unsafe { sys::sam_recovery_free(&mut self.handle) };
+    pub fn finish(self) -> Result<DurableServer, (Error, Recovery)> {
+        DurableServer::made(|at| unsafe { sys::sam_recovery_finish(self.handle.at(), at) }).map_err(|why| (why, self))
     }
 }
 

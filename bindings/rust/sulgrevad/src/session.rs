@@ -1,6 +1,6 @@
 //! A client over connections of the program's own, each a half that is read and a half that is written.
 
-use crate::{Client, ClientEvent, Error, LineState, LinkFault, Splice, Tick};
+use crate::{Client, ClientEvent, Clocked, Error, LineState, LinkFault, Shown, Splice, Tick};
 use std::fmt;
 use std::io::{self, ErrorKind, Read, Write};
 use std::net::{Shutdown, TcpStream};
@@ -133,7 +133,7 @@ impl Waker {
 /// The id is to be random. Over samhost a file is opened by its path ([`Client::begin`]): the crate's example `append` is a whole program.
 ///
 /// ```no_run
-/// use sulgrevad::{Event, Session};
+/// use sulgrevad::{Event, Session, Shown};
 /// use std::{net::TcpStream, time::Duration};
 ///
 /// let mut session = Session::new([7; 16], false, || {

@@ -1,8 +1,8 @@
 //! The terminal: windows, keyboard and mouse over partly loaded texts.
 
+use crate::handle::Held;
 use crate::step::{next_frame, term_step};
 use crate::{done, part_of_text, short_text, tells, told, whole_text, Error, NextFrame, Refusal, TermStep, PIECE};
-use std::cell::UnsafeCell;
 use sulgrevad_sys::{self as sys, sam_did, sam_file, sam_state, sam_term};
 
 /// The number by which `read` of the library stands for a rune that is not loaded.
@@ -117,23 +117,18 @@ pub(crate) fn shown(runes: Vec<u32>) -> Vec<Option<char>> {
 /// `NoFile` if the terminal doesn't know it, and `NotOpen` if it is not open.
 #[derive(Debug)]
 pub struct Terminal {
-    // Each call writes to the handle, those that only read included.
-    handle: Box<UnsafeCell<sam_term>>,
+    handle: Held<sam_term>,
 }
-
-// A handle shares nothing with another, and each call has it alone.
-unsafe impl Send for Terminal {}
 
 impl Terminal {
     /// Makes a terminal that knows no file. Its only error is `NoMemory`.
     pub fn new() -> Result<Terminal, Error> {
-        let handle = Box::new(UnsafeCell::new(sam_term::INIT));
-        done(unsafe { sys::sam_term_new(handle.get()) })?;
+        let handle = Held::made(sam_term::INIT, sys::sam_term_free, |at| unsafe { sys::sam_term_new(at) })?;
         Ok(Terminal { handle })
     }
 
     fn at(&self) -> *mut sam_term {
-        self.handle.get()
+        self.handle.at()
     }
 
     /// Types a text in the place of the selection, which is then empty and after the text. Refused, in this order: `Exited`; `NoFile`;
@@ -601,11 +596,5 @@ impl Terminal {
             sys::sam_term_snarfed(self.at(), place, into.as_mut_ptr(), into.len(), bytes, runes)
         })
         .expect("the handle is made")
-    }
-}
-
-impl Drop for Terminal {
-    fn drop(&mut self) {
-        unsafe { sys::sam_term_free(self.at()) };
     }
 }

@@ -1,8 +1,8 @@
 //! A client: a session over connections that break, what is told, and what is refused.
 
 use sulgrevad::{
-    read_note, write_note, Client, ClientEvent, Dropped, Error, Event, Host, LineState, Link, LinkFault, Note, NoteFault, NoteKind,
-    Refusal, Replacement, Role, ShownEdit, Splice, SpliceKind, StreamFault, TermStep, Tick, MOST_NOTE,
+    read_note, write_note, Client, ClientEvent, Clocked, Dropped, Error, Event, Host, LineState, Link, LinkFault, Note, NoteFault, NoteKind,
+    Refusal, Replacement, Role, Shown, ShownEdit, Splice, SpliceKind, StreamFault, TermStep, Tick, MOST_NOTE,
 };
 
 const ID: [u8; 16] = *b"a session's name";

@@ -1,6 +1,6 @@
 //! A line, with the times of its connections.
 
-use sulgrevad::{Error, Line, LineDetails, LineState, Link, LinkFault, Role, Tick, MOST_NOTE};
+use sulgrevad::{Clocked, Error, Line, LineDetails, LineState, Link, LinkFault, Role, Tick, MOST_NOTE};
 
 const ID: [u8; 16] = *b"a session's name";
 

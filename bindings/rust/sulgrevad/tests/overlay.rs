@@ -1,6 +1,6 @@
 //! An overlay: what is typed under a lock, what the host does under it, and what is refused.
 
-use sulgrevad::{Dropped, Error, Event, Host, Overlay, Put, Refusal, Splice, SpliceKind, StreamFault, TermStep, Turn};
+use sulgrevad::{Dropped, Error, Event, Host, Overlay, Put, Refusal, Shown, Splice, SpliceKind, StreamFault, TermStep, Turn};
 
 /// All that can be done without the host, requests and what waits over the file among it. Returns the changes of what is shown.
 fn go_on(overlay: &mut Overlay, file: u16) -> Vec<Splice> {

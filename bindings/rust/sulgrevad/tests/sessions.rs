@@ -10,8 +10,8 @@ use std::sync::{mpsc, Arc, Mutex};
 use std::thread;
 use std::time::{Duration, Instant};
 use sulgrevad::{
-    read_hello, write_refusal, Client, ClientEvent, Event, Host, LineState, Link, LinkFault, NoteKind, Role, Session, SessionError,
-    SpliceKind, StreamFault, WriteHalf,
+    read_hello, write_refusal, Client, ClientEvent, Clocked, Event, Host, LineState, Link, LinkFault, NoteKind, Role, Session, SessionError,
+    Shown, SpliceKind, StreamFault, WriteHalf,
 };
 
 const ID: [u8; 16] = *b"a session's name";
