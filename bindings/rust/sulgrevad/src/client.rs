@@ -21,9 +21,13 @@ pub enum ClientEvent {
     /// that of [`Shown::ask`]; as the write of a task, to which no answer comes, by that of [`Client::write`]. A reason that this crate
     /// doesn't know is `Err`, with its number in sulgrevad.h.
     Refused {
+        /// The number among all events.
         event: u64,
+        /// The number of the request; `None` if it was none.
         request: Option<u64>,
+        /// The number of the task; `None` if it was none.
         task: Option<u32>,
+        /// The reason.
         why: Result<Refusal, u32>,
     },
     /// A note came, which [`Client::note`] returns. All frames before it are received.
@@ -34,7 +38,14 @@ pub enum ClientEvent {
     Unanswered(u32),
     /// The command line of this request has run. What it printed, so many runes, stands in the command file from that place on, and is
     /// loaded: [`Shown::text`] of tag 0 returns it.
-    Ran { request: u64, place: u32, count: u32 },
+    Ran {
+        /// The number that [`Client::run`] returned.
+        request: u64,
+        /// Where in the command file stands what the line printed.
+        place: u32,
+        /// How many runes that is.
+        count: u32,
+    },
     /// The session is over, and the request of this number never acts, or its command line has no answer.
     Lapsed(u64),
 }

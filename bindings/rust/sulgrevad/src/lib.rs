@@ -43,6 +43,8 @@
 //! # Ok::<(), sulgrevad::Error>(())
 //! ```
 
+#![warn(missing_docs)]
+
 mod client;
 mod clocked;
 mod edits;

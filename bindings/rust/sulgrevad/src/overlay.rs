@@ -105,37 +105,56 @@ pub enum Turn {
 }
 
 /// An event of the user that leaves each text but that of the command file. Each does what the call of a [`Terminal`](crate::Terminal) does
-/// that has its name; those of `Cmd` do it at the command file.
+/// that has its name; those of `Cmd` do it at the command file. One number alone is the tag of the file.
 #[derive(Clone, Copy, Debug, PartialEq, Eq)]
 pub enum Event<'a> {
-    /// `(tag, start, end)`
+    /// Selects runes: `(tag, start, end)`, two places.
     Select(u16, u32, u32),
-    /// `(tag, place)`
+    /// Selects the word round a place: `(tag, place)`.
     Dclick(u16, u32),
+    /// Selects the next occurrence of the selected text.
     Look(u16),
+    /// Selects the next occurrence of the pattern.
     Search(u16),
+    /// Sends the typed runes.
     Flush,
+    /// Copies the selection into the snarf buffer.
     Snarf(u16),
+    /// Asks for the host's snarf buffer, which `snarfed` returns then.
     GetSnarf,
+    /// Gives the host another snarf buffer.
     SetSnarf(&'a str),
-    /// `(tag, place, len)`
+    /// Shows runes from a place on, and asks for them bit by bit: `(tag, place, len)`.
     View(u16, u32, u32),
-    /// `(tag, place, len)`
+    /// Shows the same runes, and asks at once for all that are not loaded: `(tag, place, len)`.
     Load(u16, u32, u32),
-    /// `(tag, lines)`
+    /// Scrolls the view up: `(tag, lines)`.
     Scroll(u16, u32),
+    /// Asks for the first gap that the view shows.
     Check(u16),
+    /// Opens a file.
     Open(u16),
+    /// Makes an empty file, and opens it.
     NewFile,
+    /// Asks the host to write a file.
     Write(u16),
+    /// Closes a file for good.
     Close(u16),
+    /// Opens the command file.
     OpenCmd,
+    /// Makes a file the one that command lines work on.
     Work(u16),
+    /// Sends the selection to the command file, and runs its last line.
     Send(u16),
+    /// Offers a version of the protocol, and asks for the names of all files.
     OfferVersion(u16),
+    /// Ends the session.
     Exit,
+    /// Types at most 512 runes in the place of the command file's dot; a line end runs the line.
     TypeCmd(&'a str),
+    /// Cuts the command file's dot into the snarf buffer.
     CutCmd,
+    /// Puts the snarf buffer in the place of the command file's dot.
     PasteCmd,
 }
 

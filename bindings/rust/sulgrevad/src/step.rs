@@ -27,9 +27,19 @@ pub enum HostStep {
     /// The last answer is pending now.
     Wrote,
     /// The host took `count` messages at once: edits of one file, and the checks (Tcheck) among them.
-    Edited { tag: u16, count: usize },
+    Edited {
+        /// The file.
+        tag: u16,
+        /// How many messages.
+        count: usize,
+    },
     /// The host answered one message of this kind, by the numbers of docs/reference/PROTOCOL.md; `tag` is the file that it names, or 0.
-    Answered { kind: u8, tag: u16 },
+    Answered {
+        /// The kind.
+        kind: u8,
+        /// The file, or 0.
+        tag: u16,
+    },
 }
 
 /// The result of a step of a terminal.
@@ -46,15 +56,31 @@ pub enum TermStep {
     /// and `change` the change of its text. If `loads` is true the frame loads runes in the place of gaps: more of the text is known, and
     /// nothing changed.
     Received {
+        /// The kind.
         kind: u8,
+        /// The file, or 0.
         tag: u16,
+        /// The change of the file's text.
         change: Change,
+        /// Whether runes came in the place of gaps.
         loads: bool,
     },
     /// The event of this number, counted from 1, acted; `tag` is the file that it names, or 0, and `change` the change of its text.
-    Acted { event: u64, tag: u16, change: Change },
+    Acted {
+        /// The number of the event.
+        event: u64,
+        /// The file, or 0.
+        tag: u16,
+        /// The change of the file's text.
+        change: Change,
+    },
     /// The event of this number was refused: `why` is the reason, or the number of a reason that this crate doesn't know.
-    Refused { event: u64, why: Result<Refusal, u32> },
+    Refused {
+        /// The number of the event.
+        event: u64,
+        /// The reason.
+        why: Result<Refusal, u32>,
+    },
 }
 
 fn change_of(did: &sam_did) -> Change {

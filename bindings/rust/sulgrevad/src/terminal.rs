@@ -22,17 +22,29 @@ pub struct Change {
 /// The state of a terminal. Each field is the result of the reader of its name.
 #[derive(Clone, Copy, Debug, PartialEq, Eq)]
 pub struct TermState {
+    /// The number of events that were taken.
     pub events: u64,
+    /// The number of events that have acted or were refused.
     pub decided: u64,
+    /// The number of held events.
     pub held: u64,
+    /// The number of messages that were composed.
     pub sent: u64,
+    /// The number of messages in flight, as [`Terminal::under_way`] counts them.
     pub under_way: u64,
+    /// The number of pending bytes.
     pub pending: usize,
+    /// The number of tags that there is room for.
     pub tags: usize,
+    /// The number of typed runes that are not sent yet.
     pub unsent: u32,
+    /// The length of the host's snarf buffer in runes, as the host said last.
     pub snarf_len: u32,
+    /// The version of the protocol that both sides speak: 1 or 2.
     pub version: u16,
+    /// Whether the command lock is held.
     pub command_locked: bool,
+    /// Whether the host has ended the session.
     pub exited: bool,
 }
 
@@ -59,16 +71,24 @@ impl TermState {
 /// need it are 0 or `false`.
 #[derive(Clone, Copy, Debug, PartialEq, Eq)]
 pub struct FileState {
+    /// Whether the terminal knows it.
     pub is_known: bool,
+    /// Whether it is open.
     pub is_open: bool,
+    /// Whether it is dirty, as the host said last.
     pub is_dirty: bool,
+    /// Whether it may differ from the text that was written last.
     pub is_changed: bool,
+    /// Whether the command lock or a lock of the file is held.
     pub is_locked: bool,
     /// Whether an edit would act at once: the file is open and not locked, no frame waits, no event is held, not even one of another file,
     /// and the session goes on.
     pub is_free: bool,
+    /// The length of its text in runes, gaps counted.
     pub len: u32,
+    /// The places where its selection begins and ends.
     pub dot: (u32, u32),
+    /// The places where its view begins and ends.
     pub view: (u32, u32),
 }
 
