@@ -1,9 +1,9 @@
 /* The user's side of a session in one handle: an overlay, and its line to the host. */
 import { editsOut, isFollowed, lendRoom, lendReplacements } from "./edits.js";
-import { PREFIX, bytesBy, make, makeOfBytes, one } from "./held.js";
+import { PREFIX, bytesBy, counted, make, makeOfBytes, one } from "./held.js";
 import { Clocked } from "./line.js";
 import { MOST_NOTE, bytesIn } from "./link.js";
-import { NO_TEXT, bytesOf, long, put, result, short, size, truth, u32, u64 } from "./module.js";
+import { NO_TEXT, bytesOf, long, result, short, size, truth, u32, u64 } from "./module.js";
 import { Shown } from "./overlay.js";
 import { Texts, terminalStep } from "./sides.js";
 
@@ -61,15 +61,7 @@ export class Client extends Clocked(Shown(Texts)) {
   }
 
   replaceEach(tag, replacements) {
-    return lendReplacements(this, replacements, (...words) => {
-      put(0);
-      try {
-        make(this, "replace_each", short(tag), ...words, result(0));
-      } catch (error) {
-        if (u64(0) === 0) throw error;
-      }
-      return u64(0);
-    });
+    return lendReplacements(this, replacements, (...words) => counted(this, "replace_each", short(tag), ...words));
   }
 
   begin(kind, { path = NO_PATH, tag = 0 }, now) {

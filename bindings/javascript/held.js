@@ -1,7 +1,7 @@
 /* The handle of the library that a host, a terminal, a link and a line each have, and the calls of it. */
 import * as module from "./module.js";
-import { bytesOut, call, lend, result, space, u64 } from "./module.js";
-import { Missing, Status, errorOf } from "./status.js";
+import { bytesOut, call, lend, put, result, space, u64 } from "./module.js";
+import { Missing, SamError, Status, errorOf } from "./status.js";
 
 export const PREFIX = Symbol("prefix"); // the beginning of the names of its calls
 const handles = new WeakMap(); // of each side the place of its handle, 0n once it was freed
@@ -70,6 +70,18 @@ export function bytesBy(side, name, room, ...words) {
 export function one(side, name, as, ...words) {
   make(side, name, ...words, result(0));
   return as(0);
+}
+
+/** Makes a call whose last result counts what it did, and returns that. A refusal behind something that was done is left to a later call,
+ * which has it again. */
+export function counted(side, name, ...words) {
+  put(0);
+  try {
+    make(side, name, ...words, result(0));
+  } catch (error) {
+    if (!(error instanceof SamError) || u64(0) === 0) throw error;
+  }
+  return u64(0);
 }
 
 /** A handle, which host, terminal, link and line share. */

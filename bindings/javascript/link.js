@@ -38,7 +38,7 @@ export function lendId(id) {
 }
 
 /** Makes a call without a handle, of bytes that it is lent, and throws the error of its status, if that is not SAM_OK. */
-export function ask(bytes, calling) {
+export function callOf(bytes, calling) {
   lend([bytesIn(bytes)], (places) => {
     if (places === null) throw errorOf(Status.NO_MEMORY);
     const code = calling(places[0], BigInt(bytes.length));
@@ -49,14 +49,14 @@ export function ask(bytes, calling) {
 /** Reads the hello with which the bytes begin, and returns it; null if nothing is wrong so far, but there are fewer than 42. */
 export function readHello(bytes) {
   return ifAny(() => {
-    ask(bytes, (place, length) => call("sam_link_read_hello", place, length, result(0), result(1), result(3)));
+    callOf(bytes, (place, length) => call("sam_link_read_hello", place, length, result(0), result(1), result(3)));
     return { what: u32(0), id: part(result(1), ID_BYTES).slice(), attempt: u64(3) };
   });
 }
 
 /** Returns the hello by which a host refuses a connection whose first bytes these are. */
 export function writeRefusal(status, bytes) {
-  ask(bytes, (place, length) => call("sam_link_write_refusal", long(status), place, length, result(0)));
+  callOf(bytes, (place, length) => call("sam_link_write_refusal", long(status), place, length, result(0)));
   return part(result(0), HELLO_BYTES).slice();
 }
 

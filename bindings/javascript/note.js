@@ -1,5 +1,5 @@
 /* The messages of a session, which samhost and its front ends exchange as the notes of a link: docs/reference/SESSION.md. */
-import { MOST_NOTE, ask, bytesIn } from "./link.js";
+import { MOST_NOTE, bytesIn, callOf } from "./link.js";
 import { byte, bytesOf, call, lend, long, part, result, short, size, sizesAt, textOf, u16, u32, u64, u8 } from "./module.js";
 import { Status, errorOf } from "./status.js";
 
@@ -67,7 +67,7 @@ const KNOWN = new Set(Object.values(NoteCode));
 
 /** The message that the bytes spell, all of them. */
 export function readNote(bytes) {
-  ask(bytes, (place, length) => call("sam_note_read", place, length, result(0)));
+  callOf(bytes, (place, length) => call("sam_note_read", place, length, result(0)));
   const [kind, code, tag, request, number] = [u8(0), u8(0, 1), u16(0, 2), u32(0, 4), u64(1)];
   const places = sizesAt(result(2), 6);
   const [path, copy, text] = [0, 2, 4].map((at) => bytes.slice(places[at], places[at] + places[at + 1]));

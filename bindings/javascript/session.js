@@ -2,9 +2,10 @@
 import { Answers, ByNumber } from "./answers.js";
 import { Client } from "./client.js";
 import { Document } from "./document.js";
+import { bytesOf } from "./module.js";
 import { NoteKind, readNote, writeNote } from "./note.js";
 import { EventKind } from "./overlay.js";
-import { Kind, Missing, NoMemory, NoteFault, SamError, Status, Unfinished, errorOf } from "./status.js";
+import { Kind, Missing, NoMemory, SamError, Status, Unfinished, errorOf } from "./status.js";
 import { Wire, now } from "./wire.js";
 
 const ID_BYTES = 16;
@@ -22,8 +23,6 @@ const RETRY = 100; // until a call is made again for which memory was out
 const LOOK_AGAIN = 50; // until a socket is looked at again in which much waits
 
 const OTHER_MESSAGES = "the host is of another version: both sides have to be of one release";
-
-const ENCODER = new TextEncoder();
 
 /** The session is over: it was left here, or its host has ended it, with the exit status `status`. */
 export class SessionOver extends Error {
@@ -55,12 +54,13 @@ export class RequestRefused extends Error {
   }
 }
 
-/** A message of the host; null for one that only a later version knows. */
+/** A message of the host; null for one that only a later version knows. Any other that can't be read is a fault of the host, which ends
+ * the session. */
 function read(bytes) {
   try {
     return readNote(bytes);
   } catch (error) {
-    if (error instanceof NoteFault) return null;
+    if (error.code === Status.NOTE_BAD_KIND) return null;
     throw error;
   }
 }
@@ -76,7 +76,7 @@ export class Session extends EventTarget {
   #seen = new Map(); // the stretch that a window shows of each file, by its tag
   #isGreeted = false; // the first message has come
   #isMoving = false;
-  #isAsked = false; // something is to move
+  #isWanted = false; // something is to move
   #isDue = false; // and it will soon
   #isShort = false; // memory was out
   #expects = false; // the line knows that promises wait
@@ -148,7 +148,9 @@ export class Session extends EventTarget {
   }
 
   async join(path) {
-    const { tag } = await this.ask(NoteKind.OPEN, { path: ENCODER.encode(path) });
+    const bytes = bytesOf(path);
+    if (bytes === null) throw errorOf(Status.NOT_TEXT); // to encode it would name another file
+    const { tag } = await this.begin(NoteKind.OPEN, { path: bytes });
     await this.know(tag);
     return tag;
   }
@@ -235,7 +237,7 @@ export class Session extends EventTarget {
     this.#goSoon();
   }
 
-  ask(kind, fields = {}) {
+  begin(kind, fields = {}) {
     return this.#begun(() => this.#client.begin(kind, fields, now()));
   }
 
@@ -299,7 +301,7 @@ export class Session extends EventTarget {
 
   /** Has all move that can, once what runs now is through: so what is asked for together goes together. */
   #goSoon() {
-    this.#isAsked = true;
+    this.#isWanted = true;
     if (this.#isDue || this.#isMoving) return;
     this.#isDue = true;
     queueMicrotask(() => {
@@ -310,12 +312,12 @@ export class Session extends EventTarget {
 
   /** Has all move that can, and then sends what goes: also what was asked for meanwhile by who was told of something. */
   #goOn() {
-    this.#isAsked = true;
+    this.#isWanted = true;
     if (this.#isMoving || this.isOver) return;
     this.#isMoving = true;
     this.#isShort = false;
-    while (this.#isAsked && !this.#isShort && !this.isOver) {
-      this.#isAsked = false;
+    while (this.#isWanted && !this.#isShort && !this.isOver) {
+      this.#isWanted = false;
       this.#try(() => this.#move());
       if (this.isOver) break;
       this.#tell("rest");
@@ -385,7 +387,7 @@ export class Session extends EventTarget {
       if (dropped === null) continue;
       this.#tell("splice", { kind: "went", tag, place: dropped.place, count: dropped.count, isGap: false });
       this.#tell("dropped", dropped);
-      this.#isAsked = true;
+      this.#isWanted = true;
     }
   }
 

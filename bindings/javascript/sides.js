@@ -1,5 +1,5 @@
 /* The two sides: what they share with each other, with overlay and client, the host, and the terminal. */
-import { Held, PREFIX, ifAny, isFreed, lendTo, make, makeOfBytes, makeOfText, one } from "./held.js";
+import { Held, PREFIX, counted, ifAny, isFreed, lendTo, make, makeOfBytes, makeOfText, one } from "./held.js";
 import * as module from "./module.js";
 import { PIECE, least, long, put, result, short, size, space, truth, u16, u32, u64, u8 } from "./module.js";
 import { Status, errorOf } from "./status.js";
@@ -342,13 +342,9 @@ export class Terminal extends Stepping(Screened(Side)) {
   }
 
   stepEdits(first, most) {
-    try {
-      make(this, "step_edits", long(first), space(), BigInt(least(most, Math.floor(PIECE / (4 * DID)))), result(0));
-    } catch (error) {
-      if (isFreed(this) || u64(0) === 0) throw error; // else the next step has it
-    }
-    const words = module.numbersOut(DID * u64(0));
-    return Array.from({ length: u64(0) }, (_, at) => {
+    const length = counted(this, "step_edits", long(first), space(), BigInt(least(most, Math.floor(PIECE / (4 * DID)))));
+    const words = module.numbersOut(DID * length);
+    return Array.from({ length }, (_, at) => {
       const [start, gone, came, , last] = words.slice(DID * at + 8);
       return { kind: (last >>> 16) & 0xff, tag: last & 0xffff, change: { start, gone, came } };
     });

@@ -145,8 +145,10 @@ export function libraryVersion() {
   return [number >>> 16, (number >>> 8) & 0xff, number & 0xff];
 }
 
-/** A call that did not answer SAM_OK; `code` is its status. */
+/** A call that did not answer SAM_OK; `code` is its status. `taken` is how many bytes of a text `typeText` typed all the same. */
 export class SamError extends Error {
+  taken = 0;
+
   constructor(code) {
     super(statusText(code));
     this.code = code;

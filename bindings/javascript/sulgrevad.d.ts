@@ -158,9 +158,10 @@ export declare const memory: {
   readonly used: number;
 };
 
-/** A call that did not answer SAM_OK; `code` is its status. */
+/** A call that did not answer SAM_OK; `code` is its status. `taken` is how many bytes of a text `typeText` typed all the same. */
 export declare class SamError extends Error {
   code: number;
+  taken: number;
   /** Returns whether the host or terminal has stopped for good: the other side's stream is wrong, or was refused. */
   readonly isStop: boolean;
 }
@@ -572,9 +573,9 @@ declare class Shown extends Held {
    * `actNext` of an overlay, once all edits before it are put, and finds the text that is shown now, with the host's changes since. The
    * fields are those of `bringEvent` of an overlay. Returns the number of the request, by which `nextEvent` of a client or `step` of an
    * overlay tells once that it acted or was refused; a write that would find the same text as one that waits is that one, and has its
-   * number. Throws, in this order, and all is then as it was: NotText; NoMemory; Missing if no event has this kind; a SamError with the
-   * code WAITING while an edit was put that has not acted: go on first; one with the code TOO_MANY if 1,000 requests wait; CountFull;
-   * NoMemory. */
+   * number. Throws, in this order, and all is then as it was: NotText; NoMemory; Missing if no event has this kind; CountFull after 2^64-1
+   * requests; a SamError with the code WAITING while an edit was put that has not acted: go on first; one with the code TOO_MANY if 1,000
+   * requests wait; CountFull; NoMemory. */
   ask(kind: number, fields?: EventFields): number;
   /** Returns the number of requests that wait, those not among them that the terminal has. */
   readonly requests: number;
@@ -725,8 +726,10 @@ export type Place = { start: number; len: number };
  * A put, a note, a piece and a hello are taken whole or not at all: if a call throws nothing has changed, but that after LINK_BAD_KIND,
  * LINK_BAD_LENGTH and LINK_ACK_AHEAD of `feed`, `feedInto` and `feedPlaces` the connection is over. */
 export declare class Link extends Held {
+  /** The roles: a terminal's end calls, and a host's answers. */
   static readonly TERMINAL: 0;
   static readonly HOST: 1;
+  /** The states of a connection, which `phase` has. */
   static readonly DOWN: 0;
   static readonly ASKING: 1;
   static readonly OPEN: 2;
@@ -830,6 +833,8 @@ export type LineDetails = {
 
 /** What line and client share: their connections, what comes on these, and how they stand. */
 declare class Clocked extends Held {
+  /** The states of a line: there is no connection; one is being made, or waits for the host's hello; a host has welcomed the newest; it
+   * has, but nothing has come for long, though an answer is due; the host has refused for good. */
   static readonly DOWN: 0;
   static readonly CONNECTING: 1;
   static readonly OPEN: 2;
@@ -1016,7 +1021,7 @@ export declare class SessionOver extends Error {
 }
 
 /** The session is lost: its host doesn't know it any more, another terminal has taken it over (LINK_OTHER_SESSION; `by` names its machine),
- * or the host's bytes are wrong. `code` is the status that says which. The texts can still be read. */
+ * or the host's bytes or messages are wrong. `code` is the status that says which. The texts can still be read. */
 export declare class SessionLost extends SamError {
   by: string;
 }
@@ -1100,7 +1105,7 @@ export declare class Session extends EventTarget {
   readonly traffic: { up: number; down: number; waiting: number; isConnecting: boolean };
   /** Returns the number of milliseconds until the line does something by itself; null if it never does. */
   readonly dueIn: number | null;
-  /** Returns whether the host has all that was done here, and all that was asked. */
+  /** Returns whether the host has all that was done here, and all that was asked for. */
   readonly hasAll: boolean;
   /** Returns whether the shown text of a file may differ from the text that was written last. */
   isUnsaved(tag: number): boolean;
@@ -1108,12 +1113,12 @@ export declare class Session extends EventTarget {
   readonly isWaiting: boolean;
   /** Returns the documents that are open. */
   readonly documents: Document[];
-  /** Opens a text by its name, at samhost by its path, and returns it once all of it has come; a second time the same document. Rejects
-   * with RequestRefused if the host has no such text, NoteFault for a name that no message can have, NoMemory, SessionOver and
-   * SessionLost. */
-  open(path: string): Promise<Document>;
+  /** Opens a text by its name, at samhost by its path, and returns it once all of it has come; a second time the same document. A path that
+   * is no UTF-8 is given by its bytes. Rejects with NotText for a lone surrogate, RequestRefused if the host has no such text, NoteFault
+   * for a name that no message can have, NoMemory, SessionOver and SessionLost. */
+  open(path: Text): Promise<Document>;
   /** Has the host join a text, and returns its tag once its name is known here. Rejects as `open` does. */
-  join(path: string): Promise<number>;
+  join(path: Text): Promise<number>;
   /** Asks for the names of files that joined the host since, if that of this one is not known. Rejects with Missing if the host has no such
    * file, with what `request` rejects, SessionOver and SessionLost. */
   know(tag: number): Promise<void>;
@@ -1126,17 +1131,17 @@ export declare class Session extends EventTarget {
   /** Tells what a window shows of a file, in the place of what it showed before: that is loaded first. It may be told at each `rest`, too.
    * Throws NoMemory. */
   see(tag: number, start: number, end: number): void;
-  /** Takes note of a key of the user: slices wait for a second. A replacement counts by itself. */
+  /** Counts a key of the user that edits nothing, as `rest` of a client does: slices wait for a second. */
   noteKey(): void;
   /** Replaces shown runes of a file, as that of a client does, and throws as that does; SessionOver and SessionLost, too. */
   replace(tag: number, start: number, end: number, text: Text): void;
   /** Asks for an event of EventKind, as `ask` of a client does, and returns once it has acted. Rejects with EditRefused if the terminal
    * refuses it, with what `ask` of a client throws, SessionOver and SessionLost. */
   request(kind: number, fields?: EventFields): Promise<void>;
-  /** Asks the host by a message of NoteKind, and returns its answer: by OPEN or COMPLETE of a `path`, or by RELOAD of a `tag`. Rejects with
-   * RequestRefused if the host refuses it, NoteFault for another kind, other fields, or a path that no message can have; a
-   * SamError with the code TOO_MANY if 1,000 answers are due; NoMemory, SessionOver and SessionLost. */
-  ask(kind: number, fields?: { path?: Uint8Array; tag?: number }): Promise<Note>;
+  /** Has the host's program do something, as `begin` of a client does, and returns its answer: NoteKind.OPEN or COMPLETE of a `path`, or
+   * RELOAD of a `tag`. Rejects with RequestRefused if the host refuses it, with what `begin` of a client throws, SessionOver and
+   * SessionLost. */
+  begin(kind: number, fields?: { path?: Uint8Array; tag?: number }): Promise<Note>;
   /** Tells the host a message that has no answer. Throws NoteFault, NoMemory, SessionOver and SessionLost. */
   tell(kind: number, fields?: Partial<Note>): void;
   /** Has a file written as it is shown now, and returns the host's answer: a note of the kind SAVED, whose `path` and `text` say where.
@@ -1147,7 +1152,7 @@ export declare class Session extends EventTarget {
    * wrong prints `?` and why. docs/reference/COMMANDS.md has the lines. Rejects with what `run` of a client throws, with EditRefused for
    * one for which the command file has no room, and with SessionOver and SessionLost. */
   run(tag: number, line: string): Promise<string>;
-  /** Closes a document, after all edits that were made before: what is not written is lost. */
+  /** Closes a document, after all edits that were made before: what is not written is lost. Rejects as `request` does. */
   closeDocument(document: Document): Promise<void>;
   /** Doubts the line, because the machine is in another network, as where a page hears `online`: the host is asked, and if it doesn't
    * answer within 2 seconds another connection is made. One that is to be made is tried after 1 second at most. */
@@ -1160,7 +1165,7 @@ export declare class Session extends EventTarget {
   leave(): void;
 }
 
-/** A file of a session, which is open here. Each call is that of the session, for this file. */
+/** A file of a session, which is open here. Each call is that of the session, for this file, and rejects or throws as that does. */
 export declare class Document {
   /** Returns the file's tag. */
   readonly tag: number;
@@ -1183,13 +1188,13 @@ export declare class Document {
   replace(start: number, end: number, text: Text): void;
   /** Inserts a text at a place, as `replace` does. */
   insert(place: number, text: Text): void;
-  /** Loads a stretch. */
+  /** Loads what is not loaded from the place `start` to the place `end`, or of all. */
   load(start?: number, end?: number): Promise<void>;
-  /** Writes the text. */
+  /** Writes the text as it is shown now, and returns the host's answer. */
   write(): Promise<Note>;
-  /** Runs a command line. */
+  /** Runs a command line on the text as it is shown now, and returns what it printed. */
   run(line: string): Promise<string>;
-  /** Closes the document. */
+  /** Closes the document: what is not written is lost. */
   close(): Promise<void>;
 }
 

@@ -162,7 +162,7 @@ export class Opening {
     const wanted = this.#wanted;
     if (wanted === "" || (this.#asking > 0 && this.editor.isLate)) return;
     this.#asking += 1;
-    const asked = this.editor.session.ask(NoteKind.COMPLETE, { path: ENCODER.encode(wanted) });
+    const asked = this.editor.session.begin(NoteKind.COMPLETE, { path: ENCODER.encode(wanted) });
     const { path, code } = await asked.catch(() => ({ path: new Uint8Array(0), code: NoteCode.NO_CODE }));
     this.#asking -= 1;
     if (wanted === this.#wanted) this.#meetNames(DECODER.decode(path), code === NoteCode.HAS_MORE);

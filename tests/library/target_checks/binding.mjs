@@ -160,6 +160,7 @@ function checkRefusals() {
   throws("Missing", "NONE", () => host.saved(tag));
   throws("NotText", "NOT_TEXT", () => terminal.type(tag, "\ud834"));
   throws("NotText", "NOT_TEXT", () => terminal.type(tag, new Uint8Array([0xff])));
+  same(throws("NotText", "NOT_TEXT", () => terminal.typeText(tag, "\ud834")).taken, 0);
   throws("NotText", "NOT_TEXT", () => new Host().addFile("a", "\udd1e"));
   throws("AddRefused", "ADD_TOO_LONG", () => new Host().addFile("n".repeat(65)));
   throws("StreamFault", "BAD_KIND", () => host.feed(new Uint8Array([0xff, 0, 0])));
@@ -197,6 +198,11 @@ function checkSteps() {
   same([terminal.stepEdits(0, 9), terminal.step().kind], [[], 67]);
   const edits = [{ kind: 81, tag, change: { start: 1, gone: 1, came: 0 } }, { kind: 77, tag, change: { start: 1, gone: 0, came: 1 } }];
   same([terminal.stepEdits(0, 1), terminal.stepEdits(0, 9), terminal.stepEdits(0, 9)], [edits.slice(0, 1), edits.slice(1), []]);
+  expect(terminal.len(tag) > 0, "a count stands where the next call has its own");
+  throwsPlain(RangeError, () => terminal.stepEdits(-1, 9));
+  expect(terminal.len(tag) > 0, "and again");
+  terminal.free();
+  throws("HandleFault", "NO_HANDLE", () => terminal.stepEdits(0, 9));
 }
 
 function checkStates() {

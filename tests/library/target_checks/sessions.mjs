@@ -187,7 +187,7 @@ async function checkWrites() {
   await document.write();
   same([net.far.host.saved(1), document.isUnsaved], ["one two three", false]);
   const written = new Promise((resolve) => session.addEventListener("note", () => resolve(document.write()), { once: true }));
-  await session.ask(NoteKind.COMPLETE, { path: bytes(1, 65) });
+  await session.begin(NoteKind.COMPLETE, { path: bytes(1, 65) });
   same((await written).kind, NoteKind.SAVED); // it was asked for while the session went on
   session.leave();
 }
@@ -214,11 +214,13 @@ async function checkRefusedRequests() {
   const error = await rejection(session.open("nowhere"));
   same([error instanceof RequestRefused, error.message], [true, "there is no nowhere"]);
   isError(await rejection(session.open("a\u0000b")), "NoteFault", "NOTE_BAD_PATH");
+  isError(await rejection(session.open("a\ud834")), "NotText", "NOT_TEXT");
+  same(await session.open(new TextEncoder().encode("a")) === document, true);
   isError(await rejection(session.request(EventKind.SELECT, { tag: 1, start: 3, number: 9 })), "EditRefused", "REFUSAL_BAD_POSITION");
   isError(await rejection(session.document(9).opened), "EditRefused", "REFUSAL_NO_FILE");
   throws("EditRefused", "REFUSAL_BAD_POSITION", () => document.replace(3, 6, "x"));
-  isError(await rejection(session.ask(NoteKind.SAID)), "NoteFault", "NOTE_BAD_KIND");
-  const paths = ["a", "b"].map((path) => session.ask(NoteKind.COMPLETE, { path: new TextEncoder().encode(path) }));
+  isError(await rejection(session.begin(NoteKind.SAID)), "NoteFault", "NOTE_BAD_KIND");
+  const paths = ["a", "b"].map((path) => session.begin(NoteKind.COMPLETE, { path: new TextEncoder().encode(path) }));
   same((await Promise.all(paths)).map(({ kind, path }) => [kind, path[0]]), [[NoteKind.NAMES, 97], [NoteKind.NAMES, 98]]);
   session.tell(NoteKind.RELOADED, { tag: 1, number: 2 });
   const closing = document.close();
@@ -335,7 +337,7 @@ async function ends(told, net = new Net({ a: "hello" })) {
   const session = new Session(net.connect, { id: ID });
   const document = await session.open("a");
   net.swallows = true;
-  const waiting = [document.write(), session.ask(NoteKind.RELOAD, { tag: 1 })].map(rejection);
+  const waiting = [document.write(), session.begin(NoteKind.RELOAD, { tag: 1 })].map(rejection);
   const heard = [];
   session.addEventListener("over", ({ detail }) => heard.push(detail));
   net.far.tell(told);
@@ -373,6 +375,25 @@ async function checkEnds() {
   other.far = new Far(ID, {});
   other.far.tell({ kind: NoteKind.SAID, text: "hello" });
   same((await new Session(other.connect, { id: ID }).over).message, "the host is of another version: both sides have to be of one release");
+}
+
+/** A message of a later version is skipped. Any other that can't be read is a fault of the host, by which the session is lost. */
+async function checkWrongMessages() {
+  const { net, session, document } = await begun({ a: "hello" });
+  const said = [];
+  session.addEventListener("note", ({ detail }) => said.push(detail.text));
+  net.far.link.putNote(Uint8Array.of(127));
+  net.far.tell({ kind: NoteKind.SAID, text: "one" });
+  net.flush();
+  await until(() => said.length === 1, "the message behind it is told");
+  net.swallows = true;
+  const written = rejection(document.write());
+  net.far.link.putNote(Uint8Array.of(NoteKind.SAID, 0, 1, 0xff)); // its text is no UTF-8
+  net.far.tell({ kind: NoteKind.SAID, text: "two" });
+  net.flush();
+  await until(() => session.isOver || said.length === 2, "it is heard");
+  isError(session.why, "SessionLost", "NOTE_BAD_TEXT");
+  same([(await written) === session.why, said, document.text()], [true, ["one"], "hello"]);
 }
 
 /** A session ends behind all that was asked for before: what a command line prints comes first. */
@@ -476,5 +497,5 @@ async function checkSessionsMemory() {
 
 export const SESSION_CHECKS = [
   ...[checkSession, checkWrites, checkRuns, checkRefusedRequests, checkBreaks, checkLoading, checkFirstPage, checkDropped],
-  ...[checkEnds, checkClose, checkAddressChanged, checkWatched, checkTries, checkSessionsMemory],
+  ...[checkEnds, checkWrongMessages, checkClose, checkAddressChanged, checkWatched, checkTries, checkSessionsMemory],
 ];
