@@ -9,6 +9,7 @@ from sulgrevad._library import CChanges, CReplacement, CSplice, Did, Text, bytes
 from sulgrevad.carrier import MOST_NOTE, Bytes, id_of
 from sulgrevad.edits import EDITING, text_of
 from sulgrevad.line import Clocked
+from sulgrevad.note import path_of
 from sulgrevad.overlay import Shown, Splice, SpliceKind, did_of
 from sulgrevad.results import TerminalDid
 from sulgrevad.sides import Stopping, index
@@ -195,11 +196,11 @@ class Client(Clocked, Shown, Stopping):
         """Has the host's program do something, and returns the number of the task, counted from 1: NoteKind.OPEN, to join the file or the
         folder at a path; COMPLETE, to tell the names that complete a path; or RELOAD, to read the file of a tag anew from its disk. The
         message goes behind all that acted, as a note does. `next_event` tells once that the answer came (ANSWERED), or that none
-        comes (UNANSWERED). Raises, in this order, and no task is begun then: NoteFault (NOTE_BAD_KIND) for another kind; TooMany if 1,000
-        tasks are open; CountFull; NoMemory; NoteFault (NOTE_BAD_FIELD) if the kind has no tag and the tag is not 0, or no path and the
-        path is not empty, (NOTE_BAD_LENGTH) if the message would have more than 4,096 bytes, (NOTE_BAD_PATH) for a zero byte; CountFull;
-        NoMemory."""
-        path = bytes_of(path)
+        comes (UNANSWERED). A path is its bytes, or a `str` as `os.listdir` returns it. Raises, in this order, and no task is begun then:
+        NotText for a surrogate that stands for no byte; NoteFault (NOTE_BAD_KIND) for another kind; TooMany if 1,000 tasks are open;
+        CountFull; NoMemory; NoteFault (NOTE_BAD_FIELD) if the kind has no tag and the tag is not 0, or no path and the path is not empty,
+        (NOTE_BAD_LENGTH) if the message would have more than 4,096 bytes, (NOTE_BAD_PATH) for a zero byte; CountFull; NoMemory."""
+        path = path_of(path)
         return self._number("begin", c_uint32, kind, tag, path, len(path), now)
 
     def write(self, tag: int) -> int:

@@ -6,7 +6,7 @@ from typing import List, NamedTuple, Optional
 
 from sulgrevad._library import LIBRARY, Place
 from sulgrevad.carrier import ID_BYTES, MOST_PIECE, NOT_YET, Bytes, Carrier, id_of
-from sulgrevad.sides import OK, Counts, least
+from sulgrevad.sides import OK, Counts, index, least
 from sulgrevad.status import Status, error_of
 
 HELLO_BYTES = 42
@@ -53,11 +53,11 @@ def read_hello(data: Bytes) -> Optional[Hello]:
 
 def write_refusal(status: int, data: Bytes) -> bytes:
     """Returns the hello by which a host refuses a connection, for one of Status.LINK_NOT_A_LINK to LINK_WRONG_COUNT. It names the session
-    and the connection of the hello with which the bytes begin; if `read_hello` reads none, it names all zeros. Raises Missing for any other
-    status."""
+    and the connection of the hello with which the bytes begin; if `read_hello` reads none, it names all zeros. Raises ValueError for a
+    number that a status can't be, Missing for any other status."""
     data = bytes(memoryview(data))
     into = ctypes.create_string_buffer(HELLO_BYTES)
-    code = LIBRARY.sam_link_write_refusal(int(status), data, len(data), into)
+    code = LIBRARY.sam_link_write_refusal(index(c_uint32, status), data, len(data), into)
     if code != OK:
         raise error_of(code)
     return into.raw

@@ -4,10 +4,10 @@ import enum
 from ctypes import byref, c_size_t, c_uint8, c_uint16, c_uint32, c_uint64
 from typing import NamedTuple, Union
 
-from sulgrevad._library import LIBRARY, CNote, bytes_of
+from sulgrevad._library import LIBRARY, CNote, Text, bytes_of
 from sulgrevad.carrier import MOST_NOTE
 from sulgrevad.sides import OK, index
-from sulgrevad.status import error_of
+from sulgrevad.status import NotText, Status, error_of
 
 _Bytes = Union[bytes, bytearray, memoryview]
 
@@ -86,6 +86,15 @@ class Note(NamedTuple):
     path: bytes = b""
     copy: bytes = b""
     text: str = ""
+
+
+def path_of(path: Text) -> bytes:
+    """Returns a path as bytes. In a `str` the surrogates U+DC80 to U+DCFF stand for bytes that are no UTF-8, as in those of `os.listdir`.
+    Raises NotText for any other surrogate."""
+    try:
+        return path.encode("utf-8", "surrogateescape") if isinstance(path, str) else bytes_of(path)
+    except UnicodeEncodeError:
+        raise NotText(Status.NOT_TEXT) from None
 
 
 def read_note(data: _Bytes) -> Note:

@@ -5,7 +5,7 @@ from typing import Iterator, List, NamedTuple, Optional
 
 from sulgrevad._library import CEvent, CSplice, Did, Text, bytes_of
 from sulgrevad.results import Change, TerminalDid
-from sulgrevad.sides import STEPS, Streams, index, least
+from sulgrevad.sides import STEPS, Streams, index
 from sulgrevad.status import Status, Step
 from sulgrevad.terminal import GAP, Refusals, Screen
 
@@ -114,8 +114,8 @@ class Shown(Screen):
         past the end of the text stays. The arguments are those of `bring_event` of an overlay. Returns the number of the request, by which
         `next_event` of a client or `step` of an overlay tells once that it acted or was refused; a write that would find the same text as
         one that waits is that one, and has its number. Raises, in this order, and all is then as it was: NotText; NoMemory; Missing if no
-        event has this kind; Waiting while an edit was put that has not acted: go on first; TooMany if 1,000 requests wait; CountFull;
-        NoMemory."""
+        event has this kind; CountFull after 2**64-1 requests; Waiting while an edit was put that has not acted: go on first; TooMany if
+        1,000 requests wait; CountFull; NoMemory."""
         event, request = event_of(kind, tag, start, number, version), c_uint64()
         data = bytes_of(text)
         self._call("ask", byref(event), data, len(data), byref(request))
@@ -170,7 +170,8 @@ class Shown(Screen):
     def read(self, tag: int, place: int, count: int) -> List[Optional[str]]:
         """Returns the shown runes of an open file from the place `place` on, at most `count`; None stands for one that is not loaded.
         Raises Missing if the file is not open, and ValueError if a number is below 0."""
-        room = least(count, max(0, self.len(tag) - max(0, place)))
+        place, count = index(c_uint32, place), index(c_size_t, count)
+        room = min(count, max(0, self.len(tag) - place))
         into, got = (c_uint32 * room)(), c_uint32()
         self._call("read", tag, place, into, room, byref(got))
         return [None if rune == GAP else chr(rune) for rune in into[: got.value]]

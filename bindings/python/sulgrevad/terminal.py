@@ -6,7 +6,7 @@ from typing import Iterator, List, Optional, Tuple
 from sulgrevad._library import LIBRARY, Did, File, State, Text, bytes_of, reader_of
 from sulgrevad.edits import Edit, Edits, read_runes, received
 from sulgrevad.results import Change, FileState, NextFrame, Refusal, TerminalDid, TerminalState
-from sulgrevad.sides import END, MOST_IN_NAME, NONE, OK, STEPS, Held, Side, Texts, least
+from sulgrevad.sides import MOST_IN_NAME, NONE, OK, STEPS, Held, Side, Texts, index
 from sulgrevad.status import Status, error_of
 
 MOST_IN_PATTERN = 512  # bytes of the longest pattern
@@ -71,10 +71,9 @@ class Screen(Texts):
 
     def runes(self, tag: int, place: int, count: int, gap: str = "\N{REPLACEMENT CHARACTER}") -> str:
         """Returns the same runes as `read`, as a text in which `gap` stands for one that is not loaded. Raises as `read` does."""
-        if place < 0 or count < 0:
-            raise ValueError(f"{min(place, count)} is below 0")
+        tag, place, count = index(c_uint16, tag), index(c_uint32, place), index(c_size_t, count)
         read = getattr(LIBRARY, f"{self._prefix}_read")
-        return read_runes(read, self._handle, tag, place, least(count, max(0, self.len(tag) - place)), gap)
+        return read_runes(read, self._handle, tag, place, min(count, max(0, self.len(tag) - place)), gap)
 
     @property
     def pattern(self) -> str:
@@ -319,13 +318,14 @@ class Terminal(Side, Screen, Refusals):
     def read(self, tag: int, place: int, count: int) -> List[Optional[str]]:
         """Returns the runes of an open file from the place `place` on, at most `count`; None stands for one that is not loaded. Raises
         Missing if the file is not open, and ValueError if a number is below 0."""
-        if 0 <= count <= FEW and 0 <= place < END[c_uint32] and 0 <= tag < END[c_uint16]:  # as a program reads each of thousands of edits
+        tag, place, count = index(c_uint16, tag), index(c_uint32, place), index(c_size_t, count)
+        if count <= FEW:  # as a program reads each of thousands of edits
             into, got = _FEW_RUNES(), c_uint32()
             code = LIBRARY.sam_term_read(byref(self._handle), tag, place, into, count, byref(got))
             if code != OK:
                 raise error_of(code)
         else:
-            room = least(count, max(0, self.len(tag) - max(0, place)))
+            room = min(count, max(0, self.len(tag) - place))
             into, got = (c_uint32 * room)(), c_uint32()
             self._call("read", tag, place, into, room, byref(got))
         return [None if rune == GAP else chr(rune) for rune in into[: got.value]]

@@ -13,12 +13,18 @@ MESSAGES_VERSION = 1  # of the messages of a session
 
 
 class SessionOver(Exception):
-    """The session is over: it was closed here, a command line was `q`, or its host has ended it."""
+    """The session is over: it was closed here, a command line was `q`, or its host has ended it. `status` is the exit status that the host
+    told; None if it told none."""
+
+    status: Optional[int] = None
 
 
 class SessionLost(SamError, SessionOver):
-    """The session is lost: its host doesn't know it any more, another terminal has taken it over (LINK_OTHER_SESSION), or the host's bytes
-    are wrong. `code` is the status that says which. The texts of its documents can still be read."""
+    """The session is lost: its host doesn't know it any more, another terminal has taken it over (LINK_OTHER_SESSION; `by` is its machine,
+    if the host told it), or the host's bytes or messages are wrong. `code` is the status that says which. The texts of its documents can
+    still be read."""
+
+    by: str = ""
 
 
 class RequestRefused(Exception):

@@ -3,6 +3,7 @@ import asyncio
 import contextlib
 import os
 from collections import deque
+from copy import copy
 from functools import partial
 from types import TracebackType
 from typing import Any, Awaitable, Callable, Deque, Dict, List, Optional, Set, Tuple, Type
@@ -13,7 +14,7 @@ from sulgrevad.aio.requests import MOST_REQUESTS, MOST_RUNES, Request, Requests,
 from sulgrevad.carrier import ID_BYTES
 from sulgrevad.client import Client, ClientEvent, ClientEventKind
 from sulgrevad.line import LineDetails, Tick
-from sulgrevad.note import Note, NoteKind
+from sulgrevad.note import Note, NoteKind, path_of
 from sulgrevad.overlay import EventKind, Splice, SpliceKind
 from sulgrevad.results import Change, TerminalDid
 from sulgrevad.status import NoMemory, SamError, Status, TooMany
@@ -67,11 +68,11 @@ class Session(End):
     # ---- The program's calls
 
     async def open(self, name: str) -> Document:
-        """Opens a text by its name, at samhost by its path, and returns it once all of it has come; a second time the same document. Raises
-        RequestRefused if the host has no such text, and NoteFault for a name that no message can have; TooMany if 1,000 requests wait;
-        SessionOver and SessionLost, too."""
+        """Opens a text by its name, at samhost by its path, and returns it once all of it has come; a second time the same document. The
+        path is one as `os.listdir` returns it. Raises NotText for a surrogate that stands for no byte; RequestRefused if the host has no
+        such text, and NoteFault for a name that no message can have; TooMany if 1,000 requests wait; SessionOver and SessionLost, too."""
         self._check()
-        tag = await self._join(name.encode("utf-8", "surrogateescape"))
+        tag = await self._join(path_of(name))
         known = self._documents.get(tag)
         document = self._begin_open(tag, name) if known is None else known  # one whose text is empty counts as false
         await self._until(lambda: document._is_ready or document._refusal is not None)
@@ -99,6 +100,14 @@ class Session(End):
     def has_all(self) -> bool:
         """Returns whether the host has all that was done here, and nothing waits."""
         return len(self._requests) == 0 and self._client.has_all
+
+    def address_changed(self) -> None:
+        """Doubts the line, because an address of the machine came or went: the host is asked, and if it doesn't answer within 2 seconds
+        another connection is made. One that is to be made is tried after 1 second at most. It does nothing if the session is over."""
+        if not self._is_over:
+            self._client.address_changed(now())
+            self._go_on()
+            self._woken.set()
 
     async def wait(self) -> None:
         """Waits until the session is over: closed here, or ended by its host. Raises SessionLost if it is lost, and SessionOver if the
@@ -157,8 +166,11 @@ class Session(End):
             raise self._failure()
 
     def _failure(self) -> Exception:
+        """Returns an exception of its own for each who waits."""
+        if isinstance(self._why, SessionOver):
+            return copy(self._why)
         failure = SessionLost(self._why.code) if isinstance(self._why, SamError) else SessionOver(str(self._why))
-        failure.__cause__ = None if isinstance(self._why, SessionOver) else self._why
+        failure.__cause__ = self._why
         return failure
 
     def _future(self) -> "asyncio.Future[Any]":
@@ -308,9 +320,13 @@ class Session(End):
             self._answer(self._requests.answered(did.task), note)
             return
         if note.kind == NoteKind.ENDED:
-            raise SessionOver("its host has ended the session")
+            over = SessionOver("its host has ended the session")
+            over.status = note.number
+            raise over
         if note.kind == NoteKind.TAKEN_OVER:
-            raise SessionLost(Status.LINK_OTHER_SESSION)
+            lost = SessionLost(Status.LINK_OTHER_SESSION)
+            lost.by = note.text
+            raise lost
         self._note_change(self.on_note, note)
 
     def _answer(self, futures: "List[asyncio.Future[Note]]", note: Note) -> None:
