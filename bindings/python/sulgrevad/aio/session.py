@@ -320,14 +320,21 @@ class Session(End):
             self._answer(self._requests.answered(did.task), note)
             return
         if note.kind == NoteKind.ENDED:
-            over = SessionOver("its host has ended the session")
-            over.status = note.number
-            raise over
+            self._meet_end(note.number)
         if note.kind == NoteKind.TAKEN_OVER:
             lost = SessionLost(Status.LINK_OTHER_SESSION)
             lost.by = note.text
             raise lost
         self._note_change(self.on_note, note)
+
+    def _meet_end(self, status: int) -> None:
+        """Meets the last message: the host goes once it knows that this has come."""
+        with contextlib.suppress(MemoryError):
+            self._client.acknowledge()
+        self._send()
+        over = SessionOver("its host has ended the session")
+        over.status = status
+        raise over
 
     def _answer(self, futures: "List[asyncio.Future[Note]]", note: Note) -> None:
         """Answers those who wait for a message of the host; those of a write once all has come of that."""
