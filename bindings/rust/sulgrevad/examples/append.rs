@@ -6,7 +6,7 @@ use std::io::{self, Read};
 use std::process::{ChildStdin, ChildStdout, Command, Stdio};
 use std::time::Duration;
 use std::{env, process};
-use sulgrevad::{read_note, Client, ClientEvent, Event, NoteKind, Session, Shown};
+use sulgrevad::{read_note, Client, ClientEvent, Clocked, Event, NoteKind, Session, Shown};
 
 const LONG: Duration = Duration::from_secs(60);
 const MESSAGES_VERSION: u64 = 1;
@@ -54,6 +54,11 @@ fn answer(session: &mut Host, task: u32) -> Result<(u16, String), Box<dyn Error>
     }
 }
 
+/// Whether a message says that the session is over.
+fn is_last(note: &[u8]) -> bool {
+    matches!(read_note(note), Ok(note) if note.kind == NoteKind::Ended)
+}
+
 fn append(path: &str, text: &str) -> Result<String, Box<dyn Error>> {
     let mut session = begin()?;
     until(&mut session, |_, event| event == ClientEvent::Note)?; // the first message says which version all have
@@ -71,7 +76,9 @@ fn append(path: &str, text: &str) -> Result<String, Box<dyn Error>> {
     let task = session.client.write(tag)?;
     let (_, told) = answer(&mut session, task)?;
     session.client.ask(Event::Exit)?; // ends the session; one that is left alone stays at the host
-    until(&mut session, |client, _| client.state().exited)?;
+    until(&mut session, |client, event| event == ClientEvent::Note && is_last(&client.note()))?;
+    session.client.acknowledge()?; // the host goes once it knows that its last message has come
+    session.go_on(Duration::ZERO, |_, _, _| ())?;
     Ok(told)
 }
 
