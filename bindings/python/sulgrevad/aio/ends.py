@@ -13,10 +13,10 @@ MESSAGES_VERSION = 1  # of the messages of a session
 
 
 class SessionOver(Exception):
-    """The session is over: it was closed here, a command line was `q`, or its host has ended it. `status` is the exit status that the host
+    """The session is over: it was closed here, a command line was `q`, or its host has ended it. `exit_status` is the one that the host
     told; None if it told none."""
 
-    status: Optional[int] = None
+    exit_status: Optional[int] = None
 
 
 class SessionLost(SamError, SessionOver):

@@ -333,7 +333,7 @@ class Session(End):
             self._client.acknowledge()
         self._send()
         over = SessionOver("its host has ended the session")
-        over.status = status
+        over.exit_status = status
         raise over
 
     def _answer(self, futures: "List[asyncio.Future[Note]]", note: Note) -> None:
