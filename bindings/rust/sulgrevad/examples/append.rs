@@ -38,8 +38,8 @@ fn until(session: &mut Host, mut holds: impl FnMut(&mut Client, ClientEvent) -> 
     Ok(())
 }
 
-/// Returns the file and the words of the host's answer to a task.
-fn answer(session: &mut Host, task: u32) -> Result<(u16, String), Box<dyn Error>> {
+/// Returns the file of the host's answer to a task.
+fn answer(session: &mut Host, task: u32) -> Result<u16, Box<dyn Error>> {
     let mut bytes = Vec::new();
     until(session, |client, event| {
         if event == ClientEvent::Answered(task) {
@@ -50,7 +50,7 @@ fn answer(session: &mut Host, task: u32) -> Result<(u16, String), Box<dyn Error>
     let note = read_note(&bytes)?;
     match note.kind {
         NoteKind::Refused | NoteKind::NotSaved => Err(note.text.into()),
-        _ => Ok((note.tag, note.text.to_string())),
+        _ => Ok(note.tag),
     }
 }
 
@@ -59,7 +59,7 @@ fn is_last(note: &[u8]) -> bool {
     matches!(read_note(note), Ok(note) if note.kind == NoteKind::Ended)
 }
 
-fn append(path: &str, text: &str) -> Result<String, Box<dyn Error>> {
+fn append(path: &str, text: &str) -> Result<(), Box<dyn Error>> {
     let mut session = begin()?;
     until(&mut session, |_, event| event == ClientEvent::Note)?; // the first message says which version all have
     let first = session.client.note();
@@ -67,29 +67,29 @@ fn append(path: &str, text: &str) -> Result<String, Box<dyn Error>> {
         return Err("samhost is of another version".into());
     }
     let task = session.client.begin(NoteKind::Open, 0, path.as_bytes(), session.now())?;
-    let (tag, _) = answer(&mut session, task)?;
+    let tag = answer(&mut session, task)?;
     session.client.ask(Event::OfferVersion(2))?; // asks for the names of the files, of which this one is new
     session.client.ask(Event::Open(tag))?;
     until(&mut session, |client, _| client.file(tag).is_open)?;
     let end = session.client.len(tag).expect("it is open");
     session.client.replace(tag, end, end, text)?; // it is shown from now on, whatever the line does
     let task = session.client.write(tag)?;
-    let (_, told) = answer(&mut session, task)?;
+    answer(&mut session, task)?;
     session.client.ask(Event::Exit)?; // ends the session; one that is left alone stays at the host
     until(&mut session, |client, event| event == ClientEvent::Note && is_last(&client.note()))?;
     session.client.acknowledge()?; // the host goes once it knows that its last message has come
     session.go_on(Duration::ZERO, |_, _, _| ())?;
-    Ok(told)
+    Ok(())
 }
 
 fn main() {
     let words: Vec<String> = env::args().skip(1).collect();
-    let told = match &words[..] {
+    let done = match &words[..] {
         [path, text] => append(path, text),
         _ => Err("usage: append FILE TEXT".into()),
     };
-    match told {
-        Ok(told) => println!("{told}"),
+    match done {
+        Ok(()) => println!("written"),
         Err(why) => {
             eprintln!("{why}");
             process::exit(1);
