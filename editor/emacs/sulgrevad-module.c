@@ -24,7 +24,8 @@ SHOWN int plugin_is_GPL_compatible;
 
 enum {
     MOST_IN_PIPE = 49152, /* bytes that may be on their way to the host: fewer than a pipe takes */
-    TEXT_ROOM = 4 * SAM_MOST_RUNES,
+    MOST_SHOWN = 2 * SAM_MOST_RUNES, /* runes of a shown text: those of the file, and as many that wait */
+    TEXT_ROOM = 4 * MOST_SHOWN,
     VERSION = 2, /* of the protocol */
 };
 
@@ -288,7 +289,7 @@ static emacs_value reloaded(emacs_env *env, struct session *session)
 }
 
 /* All of a file is shown: it is loaded. */
-CALL(see, sam_client_see(&session->client, tag_of(env, session, 0), 0, SAM_MOST_RUNES))
+CALL(see, sam_client_see(&session->client, tag_of(env, session, 0), 0, MOST_SHOWN))
 
 /* Why something can't be, which may be told the user, or nil. */
 static emacs_value refusal(emacs_env *env, sam_status status)
@@ -403,8 +404,8 @@ static size_t put_rune(uint32_t rune, uint8_t *into)
 /* So many shown runes of a file from a place on, as a list of texts and of numbers, which count gaps. */
 static emacs_value pieces(emacs_env *env, struct session *session)
 {
-    static uint32_t runes[SAM_MOST_RUNES];
-    uint32_t found = 0, place = u32(env, session, 1, UINT32_MAX), count = u32(env, session, 2, SAM_MOST_RUNES);
+    static uint32_t runes[MOST_SHOWN];
+    uint32_t found = 0, place = u32(env, session, 1, UINT32_MAX), count = u32(env, session, 2, MOST_SHOWN);
     sam_status status = sam_client_read(&session->client, tag_of(env, session, 0), place, runes, count, &found);
     if (status != SAM_OK)
         return done(env, status);
