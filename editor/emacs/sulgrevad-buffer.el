@@ -41,9 +41,11 @@ A clone of it has its variables, and is no buffer of the file.")
 Where it is but a text that has no room yet: its place, and how long it
 is.")
 (defvar-local sulgrevad--host-changes nil "The step of undo for edits by the host, as of `prepare-change-group'.")
+(defvar-local sulgrevad--undo-given nil "The list for undo as it was when the client had each edit of the buffer.")
+(defvar-local sulgrevad--undo-taken nil "The list for undo as it was when each of them had acted, too.")
 ;; They outlive a change of the major mode.
 (dolist (name '(sulgrevad--tag sulgrevad--path sulgrevad--self sulgrevad--tick sulgrevad--has-drifted sulgrevad--host-changes
-                sulgrevad-mode))
+                sulgrevad--undo-given sulgrevad--undo-taken sulgrevad-mode))
   (put name 'permanent-local t))
 
 (defconst sulgrevad--hooks
@@ -253,7 +255,8 @@ All markers stay: it is put in behind that, and the two change places."
   (let ((inhibit-read-only t) (sulgrevad--taking (current-buffer)))
     (dolist (inhibit-modification-hooks '(nil t))
       (pcase (sulgrevad--difference (sulgrevad--text) (sulgrevad--shown sulgrevad--tag))
-        (`(,start ,end ,to) (ignore-errors (sulgrevad--put start end (sulgrevad--shown sulgrevad--tag start to))))))))
+        (`(,start ,end ,to) (ignore-errors (sulgrevad--put start end (sulgrevad--shown sulgrevad--tag start to)))))))
+  (sulgrevad--join-steps sulgrevad--undo-given))
 
 ;; The host changes a text by command lines alone.  What one of them does is one step of undo, whenever it comes.
 
@@ -269,6 +272,16 @@ All markers stay: it is put in behind that, and the two change places."
     (undo-amalgamate-change-group sulgrevad--host-changes)
     (undo-boundary)
     (setq sulgrevad--host-changes nil)))
+
+(defun sulgrevad--join-steps (before)
+  "Have all since the list for undo was BEFORE be one step of undo.
+Something was put in since, and went back.  By itself undo would put it in
+once more, find no room for it either, and never come to what was before."
+  (sulgrevad--close-step)
+  (let ((at (and (consp buffer-undo-list) buffer-undo-list)))
+    (while (and (cdr at) (not (memq before (list at (cdr at)))))
+      (if (or (cadr at) (eq before (cddr at))) (setq at (cdr at)) ; the boundary in front of the step stays
+        (setcdr at (cddr at))))))
 
 (defun sulgrevad--take (splices)
   "Make the SPLICES of one step in the buffer of their file.
@@ -347,7 +360,10 @@ IS-IDLE says that no command line is under way."
       (setq list-buffers-directory sulgrevad--path) ; another major mode drops that
       (unless (or sulgrevad--has-drifted (eq (buffer-modified-p) (sulgrevad-file-is-unsaved file)))
         (restore-buffer-modified-p (sulgrevad-file-is-unsaved file)))
-      (when (and is-idle (sulgrevad--is-whole sulgrevad--tag)) (sulgrevad--close-step)))))
+      (when (and is-idle (sulgrevad--is-whole sulgrevad--tag)) (sulgrevad--close-step))
+      (unless sulgrevad--has-drifted
+        (setq sulgrevad--undo-given (and (consp buffer-undo-list) (cl-member nil buffer-undo-list :test-not #'eq)))
+        (unless (sulgrevad-file-has-edits file) (setq sulgrevad--undo-taken sulgrevad--undo-given))))))
 
 (defun sulgrevad--base (name)
   "What a buffer is called whose file has this NAME."

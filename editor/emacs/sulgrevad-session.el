@@ -156,6 +156,7 @@ Return whether there is one.  The kill ring has it."
      (sulgrevad--kill-refused text)
      (message "Sulgrevad: %s has no room for what was put in; the kill ring has it" (sulgrevad-client-name sulgrevad--client tag))
      (sulgrevad--take (list (list 'went tag place count)))
+     (when-let ((buffer (sulgrevad--buffer-of tag))) (with-current-buffer buffer (sulgrevad--join-steps sulgrevad--undo-taken)))
      t)))
 
 (defun sulgrevad--hear (event what)
