@@ -43,9 +43,12 @@ is.")
 (defvar-local sulgrevad--host-changes nil "The step of undo for edits by the host, as of `prepare-change-group'.")
 (defvar-local sulgrevad--undo-given nil "The list for undo as it was when the client had each edit of the buffer.")
 (defvar-local sulgrevad--undo-taken nil "The list for undo as it was when each of them had acted, too.")
+(defvar-local sulgrevad--cut nil
+  "Where a step of the host's has taken text out last.
+nil where that was not outside of what the buffer is narrowed to.")
 ;; They outlive a change of the major mode.
 (dolist (name '(sulgrevad--tag sulgrevad--path sulgrevad--self sulgrevad--tick sulgrevad--has-drifted sulgrevad--host-changes
-                sulgrevad--undo-given sulgrevad--undo-taken sulgrevad-mode))
+                sulgrevad--undo-given sulgrevad--undo-taken sulgrevad--cut sulgrevad-mode))
   (put name 'permanent-local t))
 
 (defconst sulgrevad--hooks
@@ -238,6 +241,12 @@ before that, has had something else go."
             (error "Another function has changed what goes")))
         (insert text)))))
 
+(defun sulgrevad--put-outside (at text)
+  "Put TEXT in AT a border of what the buffer is narrowed to, and outside."
+  (let ((start (copy-marker (point-min) (< 1 (point-min)))) (end (copy-marker (point-max) (< (buffer-size) (point-max)))))
+    (sulgrevad--put at at text)
+    (narrow-to-region (min start end) end)))
+
 (defun sulgrevad--put-over (start text)
   "Have TEXT, which is loaded, replace what stands for it from START on.
 All markers stay: it is put in behind that, and the two change places."
@@ -271,7 +280,7 @@ All markers stay: it is put in behind that, and the two change places."
   (when sulgrevad--host-changes
     (undo-amalgamate-change-group sulgrevad--host-changes)
     (undo-boundary)
-    (setq sulgrevad--host-changes nil)))
+    (setq sulgrevad--host-changes nil sulgrevad--cut nil)))
 
 (defun sulgrevad--join-steps (before)
   "Have all since the list for undo was BEFORE be one step of undo.
@@ -317,9 +326,11 @@ At the client it is PLACE; it is of COUNT runes."
   (let ((end (+ at count)))
     (pcase kind
       ('came (sulgrevad--open-step)
-             (sulgrevad--put at at (sulgrevad--shown sulgrevad--tag place (+ place count))))
+             (let ((text (sulgrevad--shown sulgrevad--tag place (+ place count))))
+               (if (eql at sulgrevad--cut) (sulgrevad--put-outside at text) (sulgrevad--put at at text))))
       ('went (sulgrevad--open-step)
              (let ((has-sign (sulgrevad--has-sign at end)))
+               (setq sulgrevad--cut (and (< at end) (or (< end (point-min)) (<= (1- (point-max)) at)) at))
                (sulgrevad--put at end "")
                (when has-sign (setq buffer-undo-list nil sulgrevad--host-changes nil)))) ; undo would put signs back
       ('filled (sulgrevad--put-over at (sulgrevad--shown sulgrevad--tag place (+ place count))))

@@ -250,8 +250,9 @@ Where that can't be now, it is tried again."
                (when (sulgrevad--wait (lambda () (sulgrevad--is-named tag)))
                  (pop-to-buffer (sulgrevad--show tag))
                  (when (< 0 line)
-                   (goto-char (point-min))
-                   (forward-line (1- line)))))))))
+                   (let ((place (save-restriction (widen) (goto-char (point-min)) (forward-line (1- line)) (point))))
+                     (unless (<= (point-min) place (point-max)) (widen))
+                     (goto-char place)))))))))
 
 (defun sulgrevad--revert (_ignore-auto noconfirm)
   "Read the buffer's file anew, after a question unless NOCONFIRM.
@@ -333,10 +334,15 @@ TICK is how often its buffer had changed when the line was asked for."
     (goto-char (point-max))
     (insert line "\n" printed))
   (when sulgrevad--tag
-    (let* ((file (sulgrevad--file tag)) (start (sulgrevad-file-dot-start file)) (end (sulgrevad-file-dot-end file)))
-      (push-mark (1+ start) t (< start end))
-      (unless (eql tick (buffer-chars-modified-tick)) (deactivate-mark)) ; as after any edit
-      (goto-char (1+ end))))
+    (let* ((file (sulgrevad--file tag)) (start (sulgrevad-file-dot-start file)) (end (sulgrevad-file-dot-end file))
+           (is-changed (not (eql tick (buffer-chars-modified-tick)))))
+      (when (or (<= (point-min) (1+ start) (1+ end) (point-max))
+                (unless (or is-changed (not widen-automatically)) ; as `goto-line'; a line that changes the text leaves point there
+                  (widen)
+                  t))
+        (push-mark (1+ start) t (< start end))
+        (goto-char (1+ end)))
+      (when is-changed (deactivate-mark)))) ; as after any edit
   (unless (string-empty-p printed) (message "%s" printed)))
 
 (defun sulgrevad--run (line)

@@ -421,6 +421,68 @@
     (same "and the client has it")
     (asked t (sulgrevad-quit))))
 
+(defun narrowed-to (text)
+  "Whether the buffer is narrowed to TEXT, point is behind its first character, and the window begins in front of that."
+  (and (equal (buffer-string) text) (eql (point) (1+ (point-min))) (<= (window-start) (point-min))))
+
+(defun check-narrowed ()
+  "What the host changes outside of what a buffer is narrowed to stays outside, and moves neither point nor window."
+  (sulgrevad-start (list samhost) (made "narrow.txt" "one\ntwo three four\nfive\n"))
+  (let ((narrow (lambda (text)
+                  (widen)
+                  (goto-char (point-min))
+                  (search-forward text)
+                  (narrow-to-region (match-beginning 0) (point))
+                  (goto-char (1+ (point-min)))
+                  (set-window-start nil (point-min))))
+        (shown (lambda () (list (buffer-string) (point) (window-start) (sulgrevad--text)))))
+    (dolist (change '((",x/two/c/number/" "one\nnumber three four\nfive\n") (",x/four/c/number/" "one\nnumber three number\nfive\n")
+                      (",x/number/c/n/" "one\nn three n\nfive\n") (",x/o/c/111/" "111ne\nn three n\nfive\n")
+                      (",x/n/d" "111e\n three \nfive\n")))
+      (funcall narrow " three ")
+      (sulgrevad-command (car change))
+      (sulgrevad--wait #'is-answered)
+      (check "the text is right" (equal (sulgrevad--text) (cadr change)) change (sulgrevad--text))
+      (check "what is shown stays" (narrowed-to " three ") change (funcall shown))
+      (same "and the client has the same"))
+    (sulgrevad-command ",c/one two three four five/")
+    (funcall narrow "two three four")
+    (mapc #'sulgrevad-command '(",x/two/c/n/" ",x/four/c/n/"))
+    (check "what it changes at a border inside stays inside" (equal (buffer-string) "n three n") (funcall shown))
+    (let ((transient-mark-mode t))
+      (push-mark (point-min) t t)
+      (goto-char (point-max))
+      (sulgrevad-command "c/2 3 4/"))
+    (check "so does what it puts in the place of all" (equal (buffer-string) "2 3 4") (funcall shown))
+    (check "and the rest is as it was" (equal (sulgrevad--text) "one 2 3 4 five") (sulgrevad--text))
+    (narrow-to-region 5 (1+ (buffer-size)))
+    (sulgrevad-command "$a/ six/")
+    (check "what it puts in at the end shows where that does" (equal (buffer-string) "2 3 4 five six") (funcall shown))
+    (asked t (sulgrevad-quit))))
+
+(defun check-narrowed-places ()
+  "A place outside of what a buffer is narrowed to is gone to where that was asked for."
+  (sulgrevad-start (list samhost) (made "place.txt" "one\ntwo\nthree\nfour\n"))
+  (let ((narrow (lambda () (narrow-to-region 5 9) (goto-char 6))))
+    (funcall narrow)
+    (sulgrevad-command ",x/o/c/0/")
+    (check "a line that changes the text leaves point and narrowing" (and (equal (buffer-string) "tw0\n") (= (point) 6)) (point))
+    (let ((widen-automatically nil))
+      (sulgrevad-command "/three/")
+      (check "so does any line where the user says so" (and (equal (buffer-string) "tw0\n") (= (point) 6)) (point)))
+    (sulgrevad-command "/three/")
+    (check "else a line that seeks shows what it has found" (and (not (buffer-narrowed-p)) (= (point) 14) (= (mark t) 9)) (point) (mark t))
+    (funcall narrow)
+    (sulgrevad-command "/w/")
+    (check "what it finds inside leaves the narrowing" (and (equal (buffer-string) "tw0\n") (= (point) 7)) (point))
+    (dolist (wish '((2 . 5) (4 . 15)))
+      (funcall narrow)
+      (setq sulgrevad--wishes (list (cons sulgrevad--tag (car wish))))
+      (sulgrevad--show-wished)
+      (check "a line that another program wishes shown is that of the file" (= (point) (cdr wish)) wish (point))
+      (check "and shows" (eq (buffer-narrowed-p) (= 2 (car wish))) wish))
+    (asked t (sulgrevad-quit))))
+
 (defun check-amid ()
   "What a command line changes comes once a command of the user's is over that has places in mind."
   (let* ((came 0) (count (lambda (&rest _) (setq came (1+ came))))
@@ -596,6 +658,6 @@
 
 (begin (pop command-line-args-left))
 (setq samhost (pop command-line-args-left))
-(run '(check-room check-waiting-room check-full check-undo check-undo-dropped check-undo-waited check-undo-in-region
-       check-amid check-modes check-replacing check-recovery check-hidden check-one-buffer check-left
+(run '(check-room check-waiting-room check-full check-undo check-undo-dropped check-undo-waited check-undo-in-region check-narrowed
+       check-narrowed-places check-amid check-modes check-replacing check-recovery check-hidden check-one-buffer check-left
        check-visit check-anew check-paths check-wishes check-keys check-steps check-sources))
