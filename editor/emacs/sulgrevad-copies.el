@@ -25,12 +25,23 @@ A disk may be slow, and keys wait.")
 (defconst sulgrevad--gap-words "[%d characters that were not loaded]" "What stands in such a text for characters that it lacks.")
 
 (defvar sulgrevad--folder nil "The folder in which the session began.")
-(defvar sulgrevad--copies nil
-  "Of files whose text is kept here while the line is lost.
-Of each its tag, where, and the text.")
+(defvar sulgrevad--copies nil "The files in which texts are kept here while the line is lost.")
 (defvar sulgrevad--keeps-at 0 "From when on that is done again, in milliseconds.")
 
 ;;; Keeping
+
+(cl-defstruct (sulgrevad-copy (:type list) (:copier nil))
+  "A file of ours that has the text of the file TAG, which had this NAME."
+  tag name path mark text)
+
+(defun sulgrevad--mark (path)
+  "What tells the file at PATH from one that comes in its place, or nil."
+  (when-let ((about (file-attributes path)))
+    (list (file-attribute-inode-number about) (file-attribute-modification-time about) (file-attribute-size about))))
+
+(defun sulgrevad--is-there (copy)
+  "Whether COPY is as it was made, and nobody has put another in its place."
+  (and copy (equal (sulgrevad-copy-mark copy) (sulgrevad--mark (sulgrevad-copy-path copy)))))
 
 (defun sulgrevad--write-new (path text)
   "Write TEXT to a file at PATH that is not there, for its owner alone.
@@ -45,19 +56,22 @@ Return `written'; `there' where another is there; nil where it can't be."
 
 (defun sulgrevad--kept-base (name)
   "How the names of files begin in which the text of the file NAME is kept."
-  (let ((last (remq 0 (append (car (last (split-string name "/"))) nil)))) ; no name of a file has a NUL
+  (let ((last (remq 0 (append (sulgrevad--base name) nil)))) ; no name of a file has a NUL
     (concat (or (seq-take last sulgrevad-most-in-base) "unnamed") ".sam-here")))
 
-(defun sulgrevad--kept-folders ()
-  "The folders for such files, the first one first."
-  (cl-remove-if #'file-remote-p (list sulgrevad--folder temporary-file-directory)))
+(defun sulgrevad--kept-folders (base)
+  "The folders for such files, the first one first.
+What begins with BASE there may have no handler of Emacs', as \"/\" and
+\"ssh:box:x\" would have."
+  (cl-loop for folder in (mapcar #'file-name-as-directory (list sulgrevad--folder temporary-file-directory))
+           unless (find-file-name-handler (concat folder base) 'delete-file) collect (expand-file-name folder)))
 
 (defun sulgrevad--keep-new (name text)
   "Write TEXT to a new file NAME.sam-here.  Return its path, or nil."
   (let ((base (sulgrevad--kept-base name)))
-    (cl-loop for folder in (sulgrevad--kept-folders)
+    (cl-loop for folder in (sulgrevad--kept-folders base)
              thereis (cl-loop for number from 1 to sulgrevad-most-names
-                              for path = (concat (file-name-as-directory folder) base (and (< 1 number) (format ".%d" number)))
+                              for path = (concat folder base (and (< 1 number) (format ".%d" number)))
                               for made = (sulgrevad--write-new path text)
                               while made
                               when (eq made 'written) return path))))
@@ -65,12 +79,16 @@ Return `written'; `there' where another is there; nil where it can't be."
 (defun sulgrevad--keep (name text tag)
   "Write TEXT to a file of this machine, NAME.sam-here.  Return its path, or nil.
 It is new, but for one in which the text of the file TAG was kept before:
-a new one takes its place."
+a new one takes its place, unless the file had another name then."
   (let* ((inhibit-quit t) (before (assq tag sulgrevad--copies)) (path (sulgrevad--keep-new name text)))
     (when (and before path)             ; the old one stays until the new one is whole
       (setq sulgrevad--copies (delq before sulgrevad--copies))
-      (ignore-errors (rename-file path (cadr before) t)
-                     (setq path (cadr before))))
+      (when (sulgrevad--is-there before)
+        (let ((old (sulgrevad-copy-path before)))
+          (ignore-errors
+            (if (not (equal name (sulgrevad-copy-name before))) (delete-file old)
+              (rename-file path old t)
+              (setq path old))))))
     path))
 
 (defun sulgrevad--text-of (buffer tag)
@@ -96,9 +114,11 @@ Without a tag it is that of the buffer.  Return what to say of it."
     (format (if path "the text of %s is here in %s" "no file can be written here; the kill ring has the text of %s") name path)))
 
 (defun sulgrevad--may-lack (tag)
-  "Whether a text of the file TAG stands here alone, unless the host has all."
-  (let ((buffer (sulgrevad--buffer-of tag)))
-    (or (sulgrevad-file-is-unsaved (sulgrevad--file tag)) (and buffer (with-current-buffer buffer (sulgrevad--waits))))))
+  "Whether a text of the file TAG stands here alone, unless the host has all.
+Of a file that nobody has opened here there is none."
+  (let ((buffer (sulgrevad--buffer-of tag)) (file (sulgrevad--file tag)))
+    (or (and (sulgrevad-file-is-open file) (sulgrevad-file-is-unsaved file))
+        (and buffer (with-current-buffer buffer (sulgrevad--waits))))))
 
 (defun sulgrevad--keep-all ()
   "Keep here each text that the host may not have.
@@ -113,24 +133,33 @@ So it is inside of a call of it that a signal broke off, or without
 memory."
   (cl-loop for buffer in sulgrevad--buffers
            when (and (buffer-live-p buffer) (buffer-modified-p buffer))
-           collect (with-current-buffer buffer (sulgrevad--keep-text (buffer-name) sulgrevad--tag))))
+           collect (with-current-buffer buffer (sulgrevad--keep-text sulgrevad--path sulgrevad--tag))))
 
 (defun sulgrevad--drop-copies ()
   "Remove the texts that are kept here: the host has all."
-  (dolist (copy sulgrevad--copies) (ignore-errors (delete-file (cadr copy))))
+  (dolist (copy sulgrevad--copies)
+    (when (sulgrevad--is-there copy) (ignore-errors (delete-file (sulgrevad-copy-path copy)))))
   (setq sulgrevad--copies nil))
+
+(defun sulgrevad--renew (name tag)
+  "Have a copy of the text of the file NAME, which has the TAG, where it may lack."
+  (let ((copy (assq tag sulgrevad--copies)) (text (and (sulgrevad--may-lack tag) (sulgrevad--text-of (sulgrevad--buffer-of tag) tag))))
+    (unless (or (null text)
+                (and (equal text (sulgrevad-copy-text copy)) (equal name (sulgrevad-copy-name copy)) (sulgrevad--is-there copy)))
+      (when-let ((path (sulgrevad--keep name text tag)))
+        (push (make-sulgrevad-copy :tag tag :name name :path path :mark (sulgrevad--mark path) :text text) sulgrevad--copies)))))
 
 (defun sulgrevad--keep-meanwhile ()
   "While the line is lost keep here what the host may not have.
+So it is while a prompt of the user's holds back what edits wait for.
 Where Emacs is killed then it is not lost.  It goes once the host has
 all."
-  (let ((has-all (and (sulgrevad-state-has-all (sulgrevad--state)) (sulgrevad--is-handed-over))) (begun (sulgrevad-line--now)))
+  (let ((inhibit-quit t) (has-all (and (sulgrevad-state-has-all (sulgrevad--state)) (sulgrevad--is-handed-over)))
+        (begun (sulgrevad-line--now)))
     (cond ((and has-all (sulgrevad-line-is-open sulgrevad--line)) (sulgrevad--drop-copies))
-          ((and (not has-all) (sulgrevad--is-late) (<= sulgrevad--keeps-at begun))
-           (cl-loop for (name . tag) in (sulgrevad--names)
-                    for text = (and (sulgrevad--may-lack tag) (sulgrevad--text-of (sulgrevad--buffer-of tag) tag))
-                    for path = (and text (not (equal text (cddr (assq tag sulgrevad--copies)))) (sulgrevad--keep name text tag))
-                    when path do (push `(,tag ,path . ,text) sulgrevad--copies))
+          ((and (not has-all) (or (sulgrevad--is-late) (sulgrevad-line-is-held sulgrevad--line)) (<= sulgrevad--keeps-at begun))
+           (pcase-dolist (`(,name . ,tag) (sulgrevad--names))
+             (with-demoted-errors "Sulgrevad: %S" (sulgrevad--renew name tag))) ; one that can't be keeps back no other
            (let ((end (sulgrevad-line--now)))
              (setq sulgrevad--keeps-at (+ end (max (* 1000 sulgrevad-most-unkept) (/ (- end begun) sulgrevad-most-keeping)))))))))
 
@@ -153,8 +182,9 @@ It doesn't where it ends badly, or refuses us."
 (defun sulgrevad--left-here (name)
   "The paths of the texts that earlier sessions kept of the file NAME.
 The one that was written last is the first."
-  (let ((pattern (concat "\\`" (regexp-quote (sulgrevad--kept-base name)) "\\(\\.[0-9]+\\)?\\'")) (own (mapcar #'cadr sulgrevad--copies)))
-    (sort (cl-loop for folder in (delete-dups (mapcar #'file-name-as-directory (sulgrevad--kept-folders)))
+  (let* ((base (sulgrevad--kept-base name)) (pattern (concat "\\`" (regexp-quote base) "\\(\\.[0-9]+\\)?\\'"))
+         (own (mapcar #'sulgrevad-copy-path sulgrevad--copies)))
+    (sort (cl-loop for folder in (delete-dups (sulgrevad--kept-folders base))
                    append (cl-loop for (path . about) in (ignore-errors (directory-files-and-attributes folder t pattern))
                                    when (and (null (file-attribute-type about)) (eql (file-attribute-user-id about) (user-uid))
                                              (not (member path own)))
@@ -194,7 +224,7 @@ When it is taken, undo takes it back, and it stays at PATH."
 (defun sulgrevad--recover (path)
   "Have the buffer's text be that at PATH."
   (let ((text (with-temp-buffer
-                (let ((coding-system-for-read 'utf-8-emacs-unix)) (insert-file-contents path))
+                (let ((coding-system-for-read 'utf-8-emacs-unix) (format-alist nil)) (insert-file-contents path))
                 (buffer-string))))
     (when (or (not (string-match-p (string-replace "%d" "[0-9]+" (regexp-quote sulgrevad--gap-words)) text))
               (yes-or-no-p (format "%s lacks characters that were not loaded; take it? " path)))

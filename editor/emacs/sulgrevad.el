@@ -42,7 +42,8 @@ WORDS is a function of the session's name.  TAKES-OVER says that it was
 another terminal's."
   (when sulgrevad--client (user-error "There is a session already"))
   (setq sulgrevad--buffers nil sulgrevad--told nil sulgrevad--complaints nil
-        sulgrevad--hidden nil sulgrevad--answers nil sulgrevad--wishes nil sulgrevad--copies nil sulgrevad--ended-with nil
+        sulgrevad--hidden nil sulgrevad--answers nil sulgrevad--wishes nil sulgrevad--ended-with nil
+        sulgrevad--copies nil sulgrevad--keeps-at 0
         sulgrevad--is-named nil sulgrevad--is-taken nil sulgrevad--folder default-directory)
   (let (line)
     (setq line (sulgrevad-line-make

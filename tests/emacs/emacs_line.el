@@ -146,6 +146,125 @@
     (sulgrevad-save)
     (sulgrevad-quit)))
 
+(defun copies (name)
+  "The texts that are kept here of the file NAME, by their paths."
+  (mapcar (lambda (file) (cons (file-name-nondirectory file) (disk file)))
+          (directory-files room t (concat "\\`" (regexp-quote name) "\\.sam-here"))))
+
+(defun renew ()
+  "Have the texts be kept here that are to be, whatever the clock says."
+  (setq sulgrevad--keeps-at 0)
+  (sulgrevad--pump))
+
+(defun check-copies-stay-right ()
+  "A copy has the name that its file has, is made anew where it is gone, and is none that another has made there."
+  (let ((name (lambda (name) (if (equal name (path "old.txt")) (path "new.txt") name))))
+    (sulgrevad-start (relayed) (made "old.txt" "text\n"))
+    (cut-line t)
+    (insert "typed ")
+    (renew)
+    (check "what the host may not have is kept" (equal (copies "old.txt") '(("old.txt.sam-here" . "typed text\n"))) (copies "old.txt"))
+    (advice-add 'sulgrevad-client-name :filter-return name)
+    (renew)
+    (check "a file with another name has its copy by that"
+           (equal (copies "new.txt") '(("new.txt.sam-here" . "typed text\n"))) (copies "new.txt"))
+    (check "and none by the name before" (null (copies "old.txt")) (copies "old.txt"))
+    (delete-file (path "new.txt.sam-here"))
+    (renew)
+    (check "one that is gone is made anew" (equal (copies "new.txt") '(("new.txt.sam-here" . "typed text\n"))) (copies "new.txt"))
+    (delete-file (path "new.txt.sam-here"))
+    (made "new.txt.sam-here" "another's\n")
+    (insert "more ")
+    (renew)
+    (check "what another has put in its place stays"
+           (equal (copies "new.txt") '(("new.txt.sam-here" . "another's\n") ("new.txt.sam-here.2" . "typed more text\n")))
+           (copies "new.txt"))
+    (advice-remove 'sulgrevad-client-name name)
+    (mend-line)
+    (check "once the host has all, too"
+           (wait-for (lambda () (equal (copies "new.txt") '(("new.txt.sam-here" . "another's\n"))))) (copies "new.txt"))
+    (check "and nothing else does" (wait-for (lambda () (null (copies "old.txt")))) (copies "old.txt"))
+    (delete-file (path "new.txt.sam-here"))
+    (asked t (sulgrevad-quit))))
+
+(defun check-copies-of-each ()
+  "A copy is made of each text that is here, though C-g comes, or another can't be kept; and of none that is not here."
+  (let* ((one (made "each_one.txt" "1\n")) (other (made "each_other.txt" "2\n")) (third (made "each_third.txt" "3\n")) (session nil)
+         (quit (lambda (path) (setq quit-flag t) path))
+         (fail (lambda (keep name &rest more) (if (equal name one) (error "Not this one") (apply keep name more)))))
+    (sulgrevad-start (relayed) one other third)
+    (sulgrevad-find third)
+    (insert "sent ")
+    (sulgrevad--wait #'is-sent)
+    (setq session (sulgrevad-line-name sulgrevad--line))
+    (sulgrevad--lose "the user has left")
+    (sulgrevad-take (relayed) session)
+    (sulgrevad-find other)
+    (insert "other ")
+    (kill-buffer)
+    (sulgrevad-find one)
+    (cut-line t)
+    (insert "typed ")
+    (advice-add 'sulgrevad--keep :around fail)
+    (renew)
+    (advice-remove 'sulgrevad--keep fail)
+    (check "a text is kept here though another can't be, and has no buffer"
+           (equal (copies "each_other.txt") '(("each_other.txt.sam-here" . "other 2\n"))) (copies "each_other.txt"))
+    (advice-add 'sulgrevad--keep :filter-return quit)
+    (condition-case nil (progn (renew) (ignore)) (quit nil))
+    (advice-remove 'sulgrevad--keep quit)
+    (check "one is though C-g comes" (equal (copies "each_one.txt") '(("each_one.txt.sam-here" . "typed 1\n"))) (copies "each_one.txt"))
+    (check "of a file that was not opened here none is" (null (copies "each_third.txt")) (copies "each_third.txt"))
+    (mend-line)
+    (check "all go once the host has all" (wait-for (lambda () (null (append (copies "each_one.txt") (copies "each_other.txt")))))
+           (copies "each_one.txt") (copies "each_other.txt"))
+    (insert "lost ")
+    (lose-host)
+    (check "where the host is lost what is here is kept" (equal (kept "each_one.txt") '("typed lost 1\n")))
+    (check "also of a file without a buffer" (equal (kept "each_other.txt") '("other 2\n")))
+    (check "and no other" (null (kept "each_third.txt")))))
+
+(defun check-copies-at-home ()
+  "A copy in a folder by another name is this session's, and not offered as one that an earlier session has left."
+  (let ((default-directory "~/"))
+    (sulgrevad-start (relayed) (made "home.txt" "text\n"))
+    (cut-line t)
+    (insert "typed ")
+    (renew)
+    (check "it is kept there" (file-exists-p "~/home.txt.sam-here"))
+    (check "it is none of an earlier session" (null (sulgrevad--left-here sulgrevad--path)) (sulgrevad--left-here sulgrevad--path))
+    (mend-line)
+    (check "it goes" (wait-for (lambda () (not (file-exists-p "~/home.txt.sam-here")))))
+    (asked t (sulgrevad-quit))))
+
+(defun check-copies-amid ()
+  "What waits for what a prompt of the user's holds back is kept here, though the line is well."
+  (sulgrevad-start (list samhost) (made "amid.txt" "text\n"))
+  (sulgrevad--run ",x/t/c/T/")
+  (sulgrevad--pump)
+  (let ((this-command 'find-file))
+    (goto-char (point-max))
+    (insert "typed")
+    (while (accept-process-output (process) 0.5)) ; all that comes
+    (check "it waits" (sulgrevad-file-has-edits (sulgrevad--file sulgrevad--tag)))
+    (setq sulgrevad--keeps-at 0)
+    (sulgrevad-line--on-time sulgrevad--line)
+    (renew)
+    (check "it is kept here" (equal (copies "amid.txt") '(("amid.txt.sam-here" . "text\ntyped"))) (copies "amid.txt")))
+  (check "then it goes" (wait-for (lambda () (sulgrevad--pump) (null (copies "amid.txt")))) (copies "amid.txt"))
+  (check "and the host has it" (equal (theirs) "TexT\ntyped") (theirs))
+  (asked t (sulgrevad-quit)))
+
+(defun check-copies-of-namesakes ()
+  "Where the client can't be asked, texts are kept by the names of their files, and not by those of the buffers."
+  (sulgrevad-start (list samhost) (made "here/same.txt" "1\n") (made "there/same.txt" "2\n"))
+  (insert "one ")
+  (sulgrevad-find (path "there/same.txt"))
+  (insert "two ")
+  (sulgrevad--pump)
+  (cl-letf (((symbol-function 'sulgrevad--keep-all) (lambda () (error "No answer")))) (lose-host))
+  (check "both are" (equal (sort (kept "same.txt") #'string<) '("one 1\n" "two 2\n"))))
+
 (defun check-typed-behind-q ()
   "What is typed while a command line ends the session is kept here."
   (sulgrevad-start (list samhost) (made "end.txt" "text\n"))
@@ -549,6 +668,8 @@ exec \"$@\"" "sh") (relayed))))
   (let ((words command-line-args-left))
     (setq command-line-args-left nil)
     (if (equal what "long") (run '(check-long check-places check-signs) (append words (list samhost)))
-      (run '(check-breaks check-folder check-clock check-prompt check-copies-go check-copies-without-memory check-typed-behind-q
+      (run '(check-breaks check-folder check-clock check-prompt check-copies-go check-copies-without-memory
+             check-copies-stay-right check-copies-of-each check-copies-at-home check-copies-amid check-copies-of-namesakes
+             check-typed-behind-q
              check-many-breaks check-random check-stalled check-take check-failed-write check-numbers check-missing check-other-versions
              check-hostile check-passwords check-no-room)))))
