@@ -368,7 +368,8 @@ IS-IDLE says that no command line is under way."
         (unless (member name (list "" sulgrevad--path))
           (setq sulgrevad--path name)
           (rename-buffer (sulgrevad--base name) t)))
-      (setq list-buffers-directory sulgrevad--path) ; another major mode drops that
+      (setq list-buffers-directory      ; another major mode drops that
+            (unless (find-file-name-handler sulgrevad--path 'file-remote-p) sulgrevad--path)) ; which C-x C-b would have look at it
       (unless (or sulgrevad--has-drifted (eq (buffer-modified-p) (sulgrevad-file-is-unsaved file)))
         (restore-buffer-modified-p (sulgrevad-file-is-unsaved file)))
       (when (and is-idle (sulgrevad--is-whole sulgrevad--tag)) (sulgrevad--close-step))
@@ -377,9 +378,10 @@ IS-IDLE says that no command line is under way."
         (unless (sulgrevad-file-has-edits file) (setq sulgrevad--undo-taken sulgrevad--undo-given))))))
 
 (defun sulgrevad--base (name)
-  "What a buffer is called whose file has this NAME."
-  (let ((base (file-name-nondirectory (directory-file-name name))))
-    (if (string-empty-p base) "unnamed" base)))
+  "What a buffer is called whose file has this NAME.
+The name is the host's.  So none of Emacs' functions for file names may
+look at it, which have handlers: TRAMP takes \"/ssh:box:/x\" for its own."
+  (or (car (last (split-string name "/" t))) "unnamed"))
 
 (provide 'sulgrevad-buffer)
 ;;; sulgrevad-buffer.el ends here

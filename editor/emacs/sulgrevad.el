@@ -173,11 +173,15 @@ One that an earlier session left is used again."
 
 (defun sulgrevad--set-mode (name)
   "Choose the major mode for the file NAME.
-Its hooks run where no file is visited: that of this path is elsewhere."
+The mode sees no file of this machine, nor TRAMP's: what has this name is
+the host's.  Its hooks run where no file is visited."
   (with-local-quit
     (with-demoted-errors "File mode specification error: %S"
       (delay-mode-hooks
-        (let ((buffer-file-name name)) (set-auto-mode)))
+        (let ((buffer-file-name (concat "/dev/null" (replace-regexp-in-string "\\(?:\\`\\|/\\)[./]*/" "/" (concat "/" name))))
+              (enable-dir-local-variables nil))
+          (if (not (find-file-name-handler buffer-file-name 'file-remote-p)) (set-auto-mode)
+            (let ((file-name-handler-alist nil)) (set-auto-mode))))) ; one for archives, say
       (run-mode-hooks))))
 
 (defun sulgrevad--question (kind path &optional tag)
@@ -286,7 +290,11 @@ The host reads it as another file, so undo has the text before."
 
 (defun sulgrevad--plain (path)
   "PATH without what stands before an absolute one, as \"src//etc/motd\"."
-  (if (string-match ".*/\\(/\\)" path) (substring path (match-beginning 1)) path))
+  (if (string-match "[^\0]*/\\(/\\)" path) (substring path (match-beginning 1)) path))
+
+(defun sulgrevad--last (path)
+  "What stands behind the last slash of PATH."
+  (car (last (split-string path "/"))))
 
 (defun sulgrevad--read-path (prompt)
   "Read a path at the host, with completion, after PROMPT."
@@ -298,13 +306,13 @@ The host reads it as another file, so undo has the text before."
                                               (cdr (or (assoc path known)
                                                        (car (push (cons path (sulgrevad--names-at path)) known)))))))
                      nil nil
-                     (and sulgrevad--path (file-name-directory sulgrevad--path))
+                     (and sulgrevad--path (string-remove-suffix (sulgrevad--last sulgrevad--path) sulgrevad--path))
                      'sulgrevad--paths)))
 
 (defun sulgrevad--complete (string predicate action names-at)
   "Complete the path STRING, with PREDICATE and ACTION as for any table.
 NAMES-AT gives the names that complete a path, without their folder."
-  (let* ((path (sulgrevad--plain string)) (name (file-name-nondirectory path)) (front (string-remove-suffix name string)))
+  (let* ((path (sulgrevad--plain string)) (name (sulgrevad--last path)) (front (string-remove-suffix name string)))
     (pcase action
       ('metadata nil)
       (`(boundaries . ,suffix) `(boundaries ,(length front) . ,(or (string-search "/" suffix) (length suffix))))

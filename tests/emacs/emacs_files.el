@@ -483,6 +483,38 @@
       (check "and shows" (eq (buffer-narrowed-p) (= 2 (car wish))) wish))
     (asked t (sulgrevad-quit))))
 
+(defun check-handlers ()
+  "No handler of Emacs' looks at a path of the host's, nor does what this machine has at such a path count."
+  (let ((looks nil) (begins nil) (files '("ssh:box:x" ":x" "a%b" "a\nb" "~/x.py" "a\n/ssh:box:/x.py"))
+        (look (lambda (operation &rest words) (push (cons operation words) looks) (error "A handler looks"))))
+    (let ((file-name-handler-alist nil)) (dolist (file files) (made (concat "./" file) "text\n")))
+    (made "inner/.dir-locals.el" "((auto-mode-alist . ((\"\\\\.py\\\\'\" . perl-mode))))")
+    (sulgrevad-start (list samhost) (made "inner/first.py" "x = 1\n"))
+    (check "what is for files of this machine chooses no mode" (eq major-mode 'python-mode) major-mode)
+    (dolist (path (append files '("/ssh:box:x.py" "/foo:bar:x.py" "/:x.py")))
+      (let ((file-name-handler-alist (list (cons "\\`/[a-z]*:\\|\n/ssh:" look))) (sulgrevad--folder "/"))
+        (sulgrevad-find-file path)
+        (check "any path is opened" (and (sulgrevad--is-ours) (string-suffix-p (buffer-name) path)) path (buffer-name))
+        (when (string-suffix-p ".py" path) (check "the mode goes by its name" (eq major-mode 'python-mode) path major-mode))
+        (cl-letf (((symbol-function 'completing-read) (lambda (_ _ _ _ begin &rest _) (push begin begins))))
+          (sulgrevad--read-path "Path: "))
+        (check "the next path begins with its folder" (string-suffix-p (concat (car begins) (buffer-name)) sulgrevad--path) path begins)
+        (completed path)
+        (list-buffers-noselect)
+        (check "a text of it is kept where no handler is"
+               (cl-notany (lambda (folder) (find-file-name-handler (concat folder (sulgrevad--kept-base path)) 'delete-file))
+                          (sulgrevad--kept-folders (sulgrevad--kept-base path)))
+               path)
+        (when (member path files)
+          (insert "typed ")
+          (sulgrevad-save)))
+      (let ((file-name-handler-alist nil))
+        (when (member path files) (check "it is written there" (equal (disk (concat room path)) "typed text\n") path)))
+      (kill-buffer))
+    (check "no handler has looked" (null looks) looks)
+    (check "a path that is no UTF-8 is refused in words" (string-search "UTF-8" (or (refused (lambda () (sulgrevad-find-file "\377"))) "")))
+    (sulgrevad-quit)))
+
 (defun check-amid ()
   "What a command line changes comes once a command of the user's is over that has places in mind."
   (let* ((came 0) (count (lambda (&rest _) (setq came (1+ came))))
@@ -659,5 +691,5 @@
 (begin (pop command-line-args-left))
 (setq samhost (pop command-line-args-left))
 (run '(check-room check-waiting-room check-full check-undo check-undo-dropped check-undo-waited check-undo-in-region check-narrowed
-       check-narrowed-places check-amid check-modes check-replacing check-recovery check-hidden check-one-buffer check-left
+       check-narrowed-places check-handlers check-amid check-modes check-replacing check-recovery check-hidden check-one-buffer check-left
        check-visit check-anew check-paths check-wishes check-keys check-steps check-sources))
