@@ -35,7 +35,8 @@ A disk may be slow, and keys wait.")
   tag name path mark text)
 
 (defun sulgrevad--mark (path)
-  "What tells the file at PATH from one that comes in its place, or nil."
+  "The inode, the time and the size of the file at PATH, or nil.
+One that comes in its place has others."
   (when-let ((about (file-attributes path)))
     (list (file-attribute-inode-number about) (file-attribute-modification-time about) (file-attribute-size about))))
 

@@ -262,6 +262,7 @@
   (sulgrevad-find (path "there/same.txt"))
   (insert "two ")
   (sulgrevad--pump)
+  (setq sulgrevad--keeps-at most-positive-fixnum)
   (cl-letf (((symbol-function 'sulgrevad--keep-all) (lambda () (error "No answer")))) (lose-host))
   (check "both are" (equal (sort (kept "same.txt") #'string<) '("one 1\n" "two 2\n"))))
 
