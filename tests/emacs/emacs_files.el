@@ -485,8 +485,8 @@
 
 (defun check-handlers ()
   "No handler of Emacs' looks at a path of the host's, nor does what this machine has at such a path count."
-  (let ((looks nil) (begins nil) (files '("ssh:box:x" ":x" "a%b" "a\nb" "~/x.py" "a\n/ssh:box:/x.py"))
-        (look (lambda (operation &rest words) (push (cons operation words) looks) (error "A handler looks"))))
+  (let* ((looks nil) (begins nil) (files '("ssh:box:x" ":x" "a%b" "a\nb" "~/x.py" "a\n/ssh:box:/x.py"))
+         (look (lambda (operation &rest words) (push (cons operation words) looks) (error "A handler looks"))))
     (let ((file-name-handler-alist nil)) (dolist (file files) (made (concat "./" file) "text\n")))
     (made "inner/.dir-locals.el" "((auto-mode-alist . ((\"\\\\.py\\\\'\" . perl-mode))))")
     (sulgrevad-start (list samhost) (made "inner/first.py" "x = 1\n"))
