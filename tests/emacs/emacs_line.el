@@ -189,7 +189,7 @@
 
 (defun check-copies-of-each ()
   "A copy is made of each text that is here, though C-g comes, or another can't be kept; and of none that is not here."
-  (let* ((one (made "each_one.txt" "1\n")) (other (made "each_other.txt" "2\n")) (third (made "each_third.txt" "3\n")) (session nil)
+  (let* ((one (made "e1.txt" "1\n")) (other (made "e2.txt" "2\n")) (third (made "e3.txt" "3\n")) (session nil)
          (quit (lambda (path) (setq quit-flag t) path))
          (fail (lambda (keep name &rest more) (if (equal name one) (error "Not this one") (apply keep name more)))))
     (sulgrevad-start (relayed) one other third)
@@ -209,20 +209,20 @@
     (renew)
     (advice-remove 'sulgrevad--keep fail)
     (check "a text is kept here though another can't be, and has no buffer"
-           (equal (copies "each_other.txt") '(("each_other.txt.sam-here" . "other 2\n"))) (copies "each_other.txt"))
+           (equal (copies "e2.txt") '(("e2.txt.sam-here" . "other 2\n"))) (copies "e2.txt"))
     (advice-add 'sulgrevad--keep :filter-return quit)
     (condition-case nil (progn (renew) (ignore)) (quit nil))
     (advice-remove 'sulgrevad--keep quit)
-    (check "one is though C-g comes" (equal (copies "each_one.txt") '(("each_one.txt.sam-here" . "typed 1\n"))) (copies "each_one.txt"))
-    (check "of a file that was not opened here none is" (null (copies "each_third.txt")) (copies "each_third.txt"))
+    (check "one is though C-g comes" (equal (copies "e1.txt") '(("e1.txt.sam-here" . "typed 1\n"))) (copies "e1.txt"))
+    (check "of a file that was not opened here none is" (null (copies "e3.txt")) (copies "e3.txt"))
     (mend-line)
-    (check "all go once the host has all" (wait-for (lambda () (null (append (copies "each_one.txt") (copies "each_other.txt")))))
-           (copies "each_one.txt") (copies "each_other.txt"))
+    (check "all go once the host has all" (wait-for (lambda () (null (append (copies "e1.txt") (copies "e2.txt")))))
+           (copies "e1.txt") (copies "e2.txt"))
     (insert "lost ")
     (lose-host)
-    (check "where the host is lost what is here is kept" (equal (kept "each_one.txt") '("typed lost 1\n")))
-    (check "also of a file without a buffer" (equal (kept "each_other.txt") '("other 2\n")))
-    (check "and no other" (null (kept "each_third.txt")))))
+    (check "where the host is lost what is here is kept" (equal (kept "e1.txt") '("typed lost 1\n")))
+    (check "also of a file without a buffer" (equal (kept "e2.txt") '("other 2\n")))
+    (check "and no other" (null (kept "e3.txt")))))
 
 (defun check-copies-at-home ()
   "A copy in a folder by another name is this session's, and not offered as one that an earlier session has left."
@@ -257,14 +257,14 @@
 
 (defun check-copies-of-namesakes ()
   "Where the client can't be asked, texts are kept by the names of their files, and not by those of the buffers."
-  (sulgrevad-start (list samhost) (made "here/same.txt" "1\n") (made "there/same.txt" "2\n"))
+  (sulgrevad-start (list samhost) (made "a/s.txt" "1\n") (made "b/s.txt" "2\n"))
   (insert "one ")
-  (sulgrevad-find (path "there/same.txt"))
+  (sulgrevad-find (path "b/s.txt"))
   (insert "two ")
   (sulgrevad--pump)
   (setq sulgrevad--keeps-at most-positive-fixnum)
   (cl-letf (((symbol-function 'sulgrevad--keep-all) (lambda () (error "No answer")))) (lose-host))
-  (check "both are" (equal (sort (kept "same.txt") #'string<) '("one 1\n" "two 2\n"))))
+  (check "both are" (equal (sort (kept "s.txt") #'string<) '("one 1\n" "two 2\n"))))
 
 (defun check-typed-behind-q ()
   "What is typed while a command line ends the session is kept here."
