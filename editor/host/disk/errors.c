@@ -41,6 +41,8 @@ static const struct {
     {TOO_MANY_FILES, SAM_NOTE_TOO_MANY, "there are too many files", SAM_ADD_NO_TAG},
     {IS_OVER, SAM_NOTE_OTHER, "the session has ended", 0},
     {NOT_TAKEN, SAM_NOTE_OTHER, "the host doesn't take it", 0},
+    {IS_REMOVED, SAM_NOTE_NOT_FOUND, "somebody has removed its folder, or a file in it", 0},
+    {OTHER_HAS_IT, SAM_NOTE_OTHER, "another samhost has gone on with it", 0},
 };
 
 enum { ERRORS = sizeof errors / sizeof errors[0] };

@@ -20,6 +20,8 @@
 #define TEXT_TOO_LONG EMSGSIZE /* it is longer than a text may be */
 #define TOO_MANY_FILES EUSERS  /* the session has as many files as it may have */
 #define IS_OVER ESHUTDOWN      /* its session has ended */
+#define IS_REMOVED EIDRM       /* somebody has removed it, or what it is found by, while it is in use */
+#define OTHER_HAS_IT EREMCHG   /* another samhost has gone on with the session */
 #define NOT_TAKEN EPROTO       /* the host doesn't take it, for another reason */
 
 /* What is wrong, in words. */

@@ -29,6 +29,7 @@
 #include "disk/errors.h"
 #include "journal/journal_records.h"
 #include "net/event_loop.h"
+#include "session/home_keeper.h"
 #include "session/session.h"
 
 enum {
@@ -87,11 +88,12 @@ void drop_turn(struct journal *journal)
     journal->turn.len = journal->in_turn = 0;
 }
 
-/* No session goes on from the journal that is there, unless this one is kept. */
+/* No session goes on from the journal that is there, unless this one is kept, or the folder may be another samhost's. */
 static void lay_aside(struct session *session)
 {
     const struct home *home = &session->home;
-    bool is_moved = !session->is_kept && renameat(home->folder, JOURNAL, home->folder, UNFINISHED_JOURNAL) == 0;
+    bool may_move = !session->is_kept && has_lock(home);
+    bool is_moved = may_move && renameat(home->folder, JOURNAL, home->folder, UNFINISHED_JOURNAL) == 0;
 
     if (is_moved && session->journal.state == IN_PLACE)
         session->journal.state = UNFINISHED;
@@ -289,13 +291,18 @@ void make_journal(struct session *session)
         hold_journal(session, error);
 }
 
+/* The name that the file of a journal has. */
+static const char *name_of_file(const struct journal *journal)
+{
+    return journal->state == IN_PLACE ? JOURNAL : journal->state == NEW ? NEW_JOURNAL : UNFINISHED_JOURNAL;
+}
+
 int place_journal(struct session *session)
 {
-    static const char *const names[] = {[NEW] = NEW_JOURNAL, [UNFINISHED] = UNFINISHED_JOURNAL};
     struct journal *journal = &session->journal;
     const struct home *home = &session->home;
 
-    if (journal->state != IN_PLACE && renameat(home->folder, names[journal->state], home->folder, JOURNAL) != 0)
+    if (journal->state != IN_PLACE && renameat(home->folder, name_of_file(journal), home->folder, JOURNAL) != 0)
         return errno;
     journal->state = IN_PLACE;
     int error = sync_home(home);
@@ -408,22 +415,70 @@ void close_records(struct text *all)
 
 /* ---- Written again ---- */
 
+/* Copies so many first bytes of an open file into an empty one. */
+static int copy_front(int from, int to, size_t len)
+{
+    uint8_t bytes[PIECE];
+
+    for (size_t at = 0; at < len;) {
+        ssize_t count = pread(from, bytes, len - at < PIECE ? len - at : PIECE, (off_t)at);
+        ssize_t put = count > 0 ? write(to, bytes, (size_t)count) : count;
+        if (put < count || count <= 0)
+            return put < 0 ? errno : count > 0 ? ENOSPC : EIO;
+        at += (size_t)count;
+    }
+    return 0;
+}
+
+/* Has the journal have a file in its folder, with what is on the disk and nothing behind that. */
+static int renew_file(struct session *session)
+{
+    struct journal *journal = &session->journal;
+    int file, error;
+
+    if (is_in_home(&session->home, name_of_file(journal), journal->file))
+        return ftruncate(journal->file, (off_t)journal->end.durable) == 0 ? 0 : errno;
+    error = make_in_home(&session->home, NEW_JOURNAL, O_RDWR | O_TRUNC | O_APPEND, &file);
+    if (error == 0 && journal->file >= 0)
+        error = copy_front(journal->file, file, journal->end.durable);
+    if (error == 0) {
+        close_file(&journal->file);
+        journal->file = file;
+        journal->state = NEW;
+    } else
+        close_file(&file);
+    return error;
+}
+
+/* Another samhost goes on with the session, so this one has no journal any more, and changes nothing in its folder. */
+static void leave_folder(struct session *session)
+{
+    session->journal.lost = OTHER_HAS_IT;
+    close_journal(&session->journal);
+    close_home(&session->home);
+}
+
 bool complete_journal(struct session *session)
 {
     struct journal *journal = &session->journal;
 
-    if (!journal->is_held)
+    if (!takes_records(journal) || (writes_records(journal) && is_home_whole(session)))
         return writes_records(journal);
+    if (!journal->is_held)
+        hold_journal(session, IS_REMOVED);
     journal->pause = 2 * journal->pause < LONGEST_PAUSE ? 2 * journal->pause : LONGEST_PAUSE;
     journal->due = now() + journal->pause;
-    int error = 0;
-    if (journal->file < 0)
-        error = make_in_home(&session->home, NEW_JOURNAL, O_RDWR | O_TRUNC | O_APPEND, &journal->file);
-    else if (ftruncate(journal->file, (off_t)journal->end.durable) != 0)
-        error = errno;
-    journal->written = 0;
+    int error = mend_home(session);
+    if (error == OTHER_HAS_IT) {
+        leave_folder(session);
+        return false;
+    }
     if (error == 0)
+        error = renew_file(session);
+    if (error == 0) {
+        journal->written = 0;
         error = flush(journal);
+    }
     if (error == 0)
         error = place_journal(session);
     if (error != 0) {
@@ -442,11 +497,26 @@ int64_t mending_is_due_in(const struct session *session)
 
     if (journal->lost != 0)
         return 0;
-    return !journal->is_held ? -1 : left > 0 ? left : 0;
+    return !journal->is_held && !journal->is_missed ? -1 : left > 0 ? left : 0;
+}
+
+/* Notices that somebody has removed the folder, or a file in it. It is left alone until that is done, unless another samhost could go on
+ * from the journal meanwhile: then nothing is added to it. */
+static void look_at_home(struct session *session)
+{
+    struct journal *journal = &session->journal;
+    bool was_missed = journal->is_missed;
+
+    journal->is_missed = writes_records(journal) && !is_home_whole(session);
+    if (journal->is_missed && !was_missed)
+        journal->due = now() + FIRST_PAUSE;
+    if (journal->is_missed && (now() >= journal->due || !has_lock(&session->home)))
+        hold_journal(session, IS_REMOVED);
 }
 
 void mend_journal(struct session *session)
 {
+    look_at_home(session);
     int error = session->journal.lost;
 
     session->journal.lost = 0;

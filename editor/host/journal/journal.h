@@ -28,6 +28,7 @@ struct journal {
     size_t in_turn;                           /* how many records of the server are among them */
     struct body held;                         /* what the disk may lack: all behind what is durable */
     size_t written;                           /* how much of that the file has */
+    bool is_missed;                           /* its folder is not whole, as somebody removes it */
     bool is_held;                             /* the file can't be written, so that waits there */
     int64_t due, pause;                       /* when that is tried again, and in how many milliseconds once more if it can't be */
     int lost;                                 /* why it can't be written, which is still to be told; else 0 */
@@ -46,10 +47,10 @@ void hold_journal(struct session *session, int error);
 /* In how many milliseconds mend_journal is to be called; -1 where it isn't. */
 int64_t mending_is_due_in(const struct session *session);
 
-/* Tells of a journal that can't be written. Where it is time, tries again. */
+/* Tells of a journal that can't be written, or is not found any more. Where it is time, tries again. */
 void mend_journal(struct session *session);
 
-/* Writes what a journal lacks that is held. Returns whether there is one then. */
+/* Writes what a journal lacks that is held, and makes again what its folder lacks. Returns whether there is one then. */
 bool complete_journal(struct session *session);
 
 /* Closes its files, and forgets what is held. */

@@ -20,6 +20,7 @@
 #include "journal/replay.h"
 #include "net/event_loop.h"
 #include "net/relay.h"
+#include "session/home_keeper.h"
 #include "session/persistent_session.h"
 #include "session/session.h"
 #include "session/session_control.h"
@@ -61,7 +62,7 @@ static struct session *make_staying(struct home *home, int64_t longest_alone)
         return NULL;
     }
     session->home = *home;
-    session->listener = session->line = session->line_out = session->journal.file = -1;
+    session->listener = session->home_watch = session->line = session->line_out = session->journal.file = -1;
     session->longest_alone = longest_alone;
     for (int at = 0; at < MOST_CALLERS; at++)
         session->callers[at].socket = -1;
@@ -81,6 +82,7 @@ static void free_staying(struct session *session)
     for (int at = 0; at < MOST_WAITERS; at++)
         close_file(&session->waiters[at].socket);
     close_file(&session->listener);
+    close_file(&session->home_watch);
     close_home(&session->home);
     free_session(session);
 }
@@ -108,12 +110,10 @@ static int say_not_begun(const struct home *home, const char *why)
 static int serve_alone(struct session *session)
 {
     sigset_t mask;
-    int status = STATUS_BROKEN, error = bind_home(&session->home, &session->listener);
+    int status = STATUS_BROKEN;
 
     set_signals(&mask); /* before its process is named, so that a signal ends it as any session */
-    write_owner(&session->home);
-    if (error == 0)
-        error = listen_at(session->listener);
+    int error = listen_in_home(session);
     if (error == 0) {
         go_alone();
         status = stay_and_serve(session);

@@ -19,6 +19,7 @@
 #include "journal/journal_records.h"
 #include "journal/replay.h"
 #include "net/event_loop.h"
+#include "session/home_keeper.h"
 #include "session/session.h"
 #include "session/turns.h"
 
@@ -28,6 +29,7 @@ enum {
     LONGEST_UNMET = 60000, /* milliseconds that a session stays alone to which no terminal came: nothing can be lost with it */
     PAUSE = 100,           /* milliseconds until memory is asked for again */
     MOST_PIECES_LEFT = 64, /* pieces of input that are still taken after a signal */
+    FIRST_CALLER = 4       /* of what is waited for: these come behind the others */
 };
 
 /* ---- The connection ---- */
@@ -170,23 +172,26 @@ static int64_t time_to_wait(struct session *session, int64_t longest)
  * does for the acknowledgement and the answer. Signals come here. */
 static void carry(struct session *session, const sigset_t *mask, int64_t longest)
 {
-    struct pollfd ends[3 + MOST_CALLERS];
+    struct pollfd ends[FIRST_CALLER + MOST_CALLERS];
     int64_t wait = time_to_wait(session, longest);
     struct timespec pause = {wait / 1000, wait % 1000 * 1000000};
     int free_ones = 0;
 
     for (int at = 0; at < MOST_CALLERS; at++) {
-        ends[3 + at] = (struct pollfd){session->callers[at].socket, POLLIN, 0};
+        ends[FIRST_CALLER + at] = (struct pollfd){session->callers[at].socket, POLLIN, 0};
         free_ones += session->callers[at].socket < 0;
     }
     ends[0] = (struct pollfd){free_ones > 0 ? session->listener : -1, POLLIN, 0};
     ends[1] = (struct pollfd){session->in.sent == session->in.len ? session->line : -1, POLLIN, 0};
     ends[2] = (struct pollfd){session->out.sent < session->out.len ? session->line_out : -1, POLLOUT, 0};
-    if (ppoll(ends, 3 + MOST_CALLERS, wait < 0 ? NULL : &pause, mask) < 0)
+    ends[3] = (struct pollfd){session->home_watch, POLLIN, 0};
+    if (ppoll(ends, FIRST_CALLER + MOST_CALLERS, wait < 0 ? NULL : &pause, mask) < 0)
         return;
     int line = session->line;
+    if (ends[3].revents != 0)
+        forget_changes(session);
     for (int at = 0; at < MOST_CALLERS; at++) {
-        if (ends[3 + at].revents != 0)
+        if (ends[FIRST_CALLER + at].revents != 0)
             hear_caller(session, &session->callers[at]);
     }
     if (ends[0].revents != 0)
@@ -331,7 +336,7 @@ static bool is_kept_at(const struct session *session, enum ending ending)
  * journal can't take of this the terminal doesn't hear: the other samhost goes on as after a kill. */
 static bool keep_session(struct session *session)
 {
-    session->is_kept = writes_records(&session->journal);
+    session->is_kept = writes_records(&session->journal) && is_home_whole(session);
     (void)save_changed(session); /* what can't be saved is in the journal */
     record_copies(session);
     settle(session);

@@ -80,6 +80,7 @@ struct session {
 
     /* The link, and how the session is found again. */
     struct home home; /* without a folder where the session ends with its line */
+    int home_watch;   /* by which the system says that a name in that folder has changed; -1 where it can't */
     bool has_streams; /* its line is standard input and output, and it ends with that */
     uint8_t id[SAM_LINK_ID_BYTES];
     bool is_named; /* a terminal has come, so the id is its session's */

@@ -104,10 +104,11 @@ void remove_home(struct home *home)
     const char *const names[] = {UNFINISHED_JOURNAL, JOURNAL, NEW_JOURNAL, SOCKET, BEFORE, ABOUT, LOCK};
     char *wrong = find_wrong_journal(home);
     size_t count = sizeof names / sizeof names[0] - (wrong != NULL ? 2 : 0); /* that is listed still */
+    bool is_ours = has_lock(home);
 
-    for (size_t at = 0; at < count; at++)
+    for (size_t at = 0; is_ours && at < count; at++)
         (void)unlinkat(home->folder, names[at], 0);
-    if (wrong == NULL)
+    if (is_ours && wrong == NULL)
         (void)unlinkat(home->all, home->name, AT_REMOVEDIR);
     free(wrong);
 }
@@ -158,13 +159,17 @@ char *find_wrong_journal(const struct home *home)
 
 /* ---- The lock ---- */
 
-/* Whether the file that is locked is the one that stands there: a session that ended removes it. */
-static bool is_current(const struct home *home)
+bool is_in_home(const struct home *home, const char *name, int file)
 {
-    struct stat locked, there;
+    struct stat own, there;
 
-    return fstat(home->lock, &locked) == 0 && fstatat(home->folder, LOCK, &there, AT_SYMLINK_NOFOLLOW) == 0 &&
-           locked.st_ino == there.st_ino && locked.st_dev == there.st_dev;
+    return fstat(file, &own) == 0 && fstatat(home->folder, name, &there, AT_SYMLINK_NOFOLLOW) == 0 && own.st_ino == there.st_ino &&
+           own.st_dev == there.st_dev;
+}
+
+bool has_lock(const struct home *home)
+{
+    return is_in_home(home, LOCK, home->lock);
 }
 
 int lock_home(struct home *home)
@@ -175,16 +180,29 @@ int lock_home(struct home *home)
         return error;
     if (flock(home->lock, LOCK_EX | LOCK_NB) != 0)
         error = errno;
-    else if (!is_current(home))
+    else if (!has_lock(home)) /* a session that ended has removed it */
         error = ENOENT;
     if (error != 0)
         close_file(&home->lock);
     return error;
 }
 
+int renew_home(struct home *home)
+{
+    struct home new;
+    int error = open_home(home->name, true, &new);
+
+    if (error == 0)
+        error = lock_home(&new);
+    close_home(error == 0 ? home : &new);
+    if (error == 0)
+        *home = new;
+    return error;
+}
+
 void write_owner(const struct home *home)
 {
-    if (ftruncate(home->lock, 0) == 0)
+    if (ftruncate(home->lock, 0) == 0 && lseek(home->lock, 0, SEEK_SET) == 0)
         (void)dprintf(home->lock, "%ld\n", (long)getpid()); /* it is for people to read */
 }
 
@@ -218,6 +236,11 @@ int bind_home(const struct home *home, int *listener)
 int listen_at(int listener)
 {
     return listen(listener, MOST_WAITING) == 0 ? 0 : errno;
+}
+
+bool has_socket(const struct home *home)
+{
+    return is_there(home, SOCKET);
 }
 
 bool is_ours(int socket)

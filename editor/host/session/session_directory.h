@@ -39,7 +39,7 @@ int sync_home(const struct home *home);
 /* Gives the folder another name. */
 int rename_home(struct home *home, const char name[NAME_DIGITS + 1]);
 
-/* Removes the folder and what a session has in it. One that has a wrong journal stays, with that. */
+/* Removes the folder and what a session has in it, unless the lock is lost. One that has a wrong journal stays, with that. */
 void remove_home(struct home *home);
 
 /* Keeps the journal as a wrong one, unless there is one, and hands out its path, in memory of the caller's; NULL where memory is out. */
@@ -51,6 +51,15 @@ char *find_wrong_journal(const struct home *home);
 /* Takes the lock, which is kept until the file of it is closed. EWOULDBLOCK where a living samhost has it. */
 int lock_home(struct home *home);
 
+/* Whether the lock that this process has is still the one in the folder: who has not may change no name there. */
+bool has_lock(const struct home *home);
+
+/* Where somebody has removed the lock, or the folder with it: makes them again, and takes the lock. */
+int renew_home(struct home *home);
+
+/* Whether an open file is the one that has a name in the folder. */
+bool is_in_home(const struct home *home, const char *name, int file);
+
 /* Writes into the lock which process has it. */
 void write_owner(const struct home *home);
 
@@ -58,6 +67,7 @@ void write_owner(const struct home *home);
  * other end. */
 int bind_home(const struct home *home, int *listener);
 int listen_at(int listener);
+bool has_socket(const struct home *home);
 
 /* Connects to the samhost of a session. Where too many others wait for it, EAGAIN after so many milliseconds; 0: after any time. */
 int connect_home(const struct home *home, int64_t longest, int *line);

@@ -66,10 +66,10 @@ def with_calls(pid, *words):
 class Staying:
     """A terminal, and the line to its session: the relay that it runs now. A line that breaks is made anew."""
 
-    def __init__(self, folder, *files, options=(), begin=True, takes=None, prefix=(), kind=Link):
+    def __init__(self, folder, *files, options=(), begin=True, takes=None, prefix=(), kind=Link, id=None):
         """With `takes` it takes over the session of that name, or the only one where it is empty. The words of `prefix` run the first
-        relay, and `kind` makes the link's end."""
-        self.folder, self.id = folder, os.urandom(16)
+        relay, and `kind` makes the link's end. With an `id` that is the session's."""
+        self.folder, self.id = folder, id or os.urandom(16)
         self.name = self.id[:8].hex()
         place = str(folder / "temporary")
         self.environment = {**os.environ, "TMPDIR": place, "XDG_STATE_HOME": place}

@@ -562,7 +562,7 @@ def check_session_gone(folder):
     with Place(folder) as place:
         neovim = place.changed()
         neovim.wait_settled()
-        shutil.rmtree(place.host.state)
+        place.host.state.rename(folder / "elsewhere")  # one that is removed its samhost would make again
         place.host.kill()
         expect_kept(neovim, "no session is found")
 
