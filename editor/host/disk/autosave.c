@@ -69,20 +69,19 @@ void drop_copy(struct copy *copy)
     forget_copy(copy);
 }
 
-/* What the text of a file is called in lines and in names of copies, in memory of its own: by its path, or where it has none by its
- * tag. */
-static char *name_of(struct session *session, uint16_t tag)
+/* What a text is called, in memory of its own: by the path of its file; where it has none by what it is, and `end` behind that. That is ""
+ * in lines, and OF_NO_FILE where copies are named. */
+static char *name_of(struct session *session, uint16_t tag, const char *end)
 {
-    int error;
+    int error = 0;
+    char *path = tag == THE_CUT ? NULL : path_of(session, tag, &error);
 
-    if (tag == THE_CUT)
-        return from_folder(session, "");
-    char *path = path_of(session, tag, &error);
     if (path != NULL || error == ENOMEM)
         return path;
-    char *unnamed = formatted(UNNAMED "%u", (unsigned)tag), *own = unnamed == NULL ? NULL : from_folder(session, unnamed);
-    free(unnamed);
-    return own;
+    char *own = tag == THE_CUT ? formatted(CUT "%s", end) : formatted(UNNAMED "%u%s", (unsigned)tag, end);
+    char *name = own == NULL ? NULL : from_folder(session, own);
+    free(own);
+    return name;
 }
 
 /* Saves a text where it was saved before, unless its file has another name since; else in a new copy, as keep does. An older copy goes
@@ -108,8 +107,9 @@ static int save_copy(const struct text *text, const char *name, const char *like
 /* Saves the text in session->text. */
 static int save_aside(struct session *session, uint16_t tag)
 {
-    char *name = name_of(session, tag);
-    int error = save_copy(&session->text, name, tag == THE_CUT ? NULL : name, &session->documents[tag].aside);
+    char *name = name_of(session, tag, OF_NO_FILE);
+    bool is_file = name != NULL && *last_of(name) != '\0';
+    int error = save_copy(&session->text, name, is_file ? name : NULL, &session->documents[tag].aside);
 
     free(name);
     return error;
@@ -254,7 +254,7 @@ bool save_changed(struct session *session)
         struct document *document = &session->documents[tag];
         int error = secure(session, tag, &place);
         bool is_told = error != 0 ? !document->is_reported : document->held.bytes != NULL;
-        char *name = is_told ? name_of(session, tag) : NULL;
+        char *name = is_told ? name_of(session, tag, "") : NULL;
         if (is_told && error == 0)
             tell_saved(session, tag, name == NULL ? "a file" : name, place);
         else if (is_told)
@@ -285,10 +285,11 @@ bool is_copy_at(struct session *session, const char *path)
 static bool hold_closed(struct session *session, uint16_t tag, const char *name)
 {
     struct document *document = &session->documents[tag];
-    char *path = formatted("%s", name), *shown = shown_name(name);
+    int error = 0;
+    char *path = path_of(session, tag, &error), *shown = shown_name(name);
     uint8_t *bytes = take_text(session, tag) != 0 ? NULL : malloc(session->text.len + 1);
 
-    if (path == NULL || shown == NULL || bytes == NULL) {
+    if (error == ENOMEM || shown == NULL || bytes == NULL) {
         free(path);
         free(shown);
         free(bytes);
@@ -308,7 +309,7 @@ static bool hold_closed(struct session *session, uint16_t tag, const char *name)
 bool save_closing(struct session *session, uint16_t tag)
 {
     enum place place;
-    char *name = name_of(session, tag);
+    char *name = name_of(session, tag, "");
     int error = name == NULL ? ENOMEM : secure(session, tag, &place);
 
     if (error == ENOMEM || (error != 0 && !hold_closed(session, tag, name))) {
@@ -356,7 +357,7 @@ bool save_for_good(struct session *session, uint16_t tag)
     do
         error = secure(session, tag, &place);
     while (is_tried_again(error, &tries));
-    char *name = name_of(session, tag);
+    char *name = name_of(session, tag, "");
     if (error != 0)
         tell_unsaved(tag, name, error, true);
     else

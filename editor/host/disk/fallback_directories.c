@@ -134,9 +134,9 @@ static char *whole_path(const char *path)
 char *own_front(const char *path)
 {
     char base[BASE_ROOM];
-    char *named = formatted("%s%s", path, *last_of(path) == '\0' ? CUT : ""), *whole = named == NULL ? NULL : whole_path(named);
+    char *bare = bare_path(path), *whole = bare == NULL ? NULL : whole_path(bare);
 
-    free(named);
+    free(bare);
     if (whole == NULL)
         return NULL;
     uint64_t hash = hash_of(whole);

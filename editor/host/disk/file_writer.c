@@ -278,18 +278,19 @@ static int keep_as(const struct text *text, const char *front, const char *suffi
 static int front_at(int which, const char *name, char **front)
 {
     char base[BASE_ROOM];
-    char *folder = NULL;
+    char *folder = NULL, *bare = bare_path(name);
     int error = 0;
 
     base_of(name, base);
     if (which > 0)
         error = own_folder(which - 1, true, &folder);
-    else
-        folder = folder_of(name);
+    else if (bare != NULL)
+        folder = folder_of(bare);
     char *last = which > 0 ? own_front(name) : formatted("%s", base);
     *front = folder == NULL || last == NULL ? NULL : formatted("%s%s", folder, last);
     free(last);
     free(folder);
+    free(bare);
     return error != 0 ? error : *front == NULL ? ENOMEM : 0;
 }
 

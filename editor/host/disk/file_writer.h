@@ -12,7 +12,6 @@
 #define SAVED ".sam-saved"   /* what comes after the name of a file whose text was not written */
 #define OLD ".sam-old"       /* what comes after the name of a file for what it was, while it is written in place */
 #define THEIRS ".sam-theirs" /* what comes after the name of a file for another program's text, in whose place one was written */
-#define UNNAMED "unnamed-"   /* what names of copies begin with of files that have no name */
 
 /* A text that was saved aside. The user may put a file of his own in its place; by these marks the host knows its own. */
 struct copy {

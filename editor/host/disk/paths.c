@@ -77,13 +77,36 @@ dev_t disk_of_folder(const char *path)
     return stat_folder(path, &status) == 0 ? status.st_dev : 0;
 }
 
+bool is_unnamed(const char *name, size_t len)
+{
+    size_t front = strlen(UNNAMED);
+
+    return len > front && strncmp(name, UNNAMED, front) == 0 && strspn(name + front, "0123456789") >= len - front;
+}
+
+/* The length of a path without OF_NO_FILE. */
+static size_t bare_len(const char *path)
+{
+    size_t len = strlen(path);
+
+    return len > 0 && *last_of(path) == '\0' ? len - 1 : len;
+}
+
+char *bare_path(const char *path)
+{
+    return formatted("%.*s", (int)bare_len(path), path);
+}
+
 void base_of(const char *path, char base[BASE_ROOM])
 {
-    const char *last = *last_of(path) == '\0' ? CUT : last_of(path);
-    size_t len = strlen(last);
+    const char *path_end = path + bare_len(path), *last = path_end;
+    bool is_file = *path_end == '\0';
     char end[HASH_ROOM] = "";
 
-    if (len >= BASE_ROOM || strcmp(last_of(path), CUT) == 0) {
+    while (last > path && last[-1] != '/')
+        last--;
+    size_t len = (size_t)(path_end - last);
+    if (len >= BASE_ROOM || (is_file && (strcmp(last, CUT) == 0 || is_unnamed(last, len)))) {
         snprintf(end, sizeof end, "-%016" PRIx64, hash_of(last));
         len = len < BASE_ROOM ? len : BASE_ROOM - sizeof end;
         while (len > 0 && ((unsigned char)last[len] & 0xC0) == 0x80)

@@ -39,12 +39,19 @@ int stat_folder(const char *path, struct stat *status);
 /* The device that the folder of a path is on; 0 where that isn't known. */
 dev_t disk_of_folder(const char *path);
 
-#define CUT "cut" /* what names of copies begin with of what was cut last */
+#define CUT "cut"          /* what names of copies begin with of what was cut last */
+#define UNNAMED "unnamed-" /* the same of a file that has no name; its tag follows */
+#define OF_NO_FILE "/"     /* what comes behind these names, so that no file has them as its path */
 
-/* What names of a file's copies begin with: the last part of its path; of one that is too long its front, in whole runes, and its hash,
- * since other names may have that front. A file that is named CUT gets a hash, too, and CUT is for the path without a last part, which no
- * file has. */
+/* Whether a name, of so many bytes, is UNNAMED and a number. */
+bool is_unnamed(const char *name, size_t len);
+
+/* What names of a text's copies begin with: the last part of its path, without OF_NO_FILE; of one that is too long its front, in whole
+ * runes, and its hash, since other names may have that front. A file that is named as a text of no file gets a hash, too. */
 void base_of(const char *path, char base[BASE_ROOM]);
+
+/* A path without OF_NO_FILE, in memory of its own. */
+char *bare_path(const char *path);
 
 /* The path that symbolic links at the end of a path lead to, in memory of the caller's. Nothing needs to be there. */
 int end_of_links(const char *path, char **end);

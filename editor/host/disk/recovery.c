@@ -216,11 +216,10 @@ static void report_copy(struct search *search, const struct folder *folder, cons
 static void report_other(struct search *search, const struct folder *folder, const char *entry, size_t len)
 {
     struct left left = {0};
-    size_t front = folder->is_own && strcspn(entry, "-") == 16 ? 17 : 0; /* a number of the path, and a dash */
+    size_t front = folder->is_own && len > 16 && strcspn(entry, "-") == 16 ? 17 : 0; /* a number of the path, and a dash */
     bool is_cut = len - front == strlen(CUT) && strncmp(entry + front, CUT, strlen(CUT)) == 0;
-    bool is_unnamed = strncmp(entry + front, UNNAMED, strlen(UNNAMED)) == 0;
 
-    if ((is_cut || is_unnamed) && look_at(search, folder->path, entry, NULL, &left)) {
+    if ((is_cut || is_unnamed(entry + front, len - front)) && look_at(search, folder->path, entry, NULL, &left)) {
         struct event event = earlier_text(is_cut ? SAM_NOTE_CUT : SAM_NOTE_UNNAMED, 0, NULL, &left);
         if (is_cut)
             tell(&event, "what was cut last in an earlier session is in %s, of %s", left.path, left.when);

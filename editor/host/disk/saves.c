@@ -35,11 +35,9 @@ char *path_of(struct session *session, uint16_t tag, int *error)
         len = 0;
     name[len] = '\0';
     bool is_cut = document->held.bytes != NULL || (document->shown != NULL && strcmp(name, document->shown) == 0);
-    *error = !is_cut && (*last_of(name) == '\0' || strlen(name) != len) ? NO_NAME : 0;
-    if (*error != 0)
-        return NULL;
-    char *path = from_folder(session, is_cut ? document->path : name);
-    *error = path == NULL ? ENOMEM : 0;
+    const char *whole = is_cut ? document->path : *last_of(name) == '\0' || strlen(name) != len ? NULL : name;
+    char *path = whole == NULL ? NULL : from_folder(session, whole);
+    *error = path != NULL ? 0 : whole == NULL ? NO_NAME : ENOMEM;
     return path;
 }
 
