@@ -204,12 +204,10 @@ static bool is_on_disk(const struct document *document, const char *path)
 {
     char *end = NULL;
     const struct known *known = end_of_links(path, &end) == 0 ? find_known(document, end) : NULL;
-    int file = known != NULL && known->content.kind == NOT_SURE ? -1 : open(path, O_RDONLY | O_NONBLOCK | O_CLOEXEC);
-    bool is_synced = file >= 0 && fsync(file) == 0;
+    bool is_sure = known == NULL || known->content.kind != NOT_SURE;
 
-    close_file(&file);
     free(end);
-    return is_synced;
+    return is_sure && sync_file(path);
 }
 
 bool stands_in_its_file(struct session *session, uint16_t tag)

@@ -217,6 +217,15 @@ int read_all(int file, struct text *text)
     return error;
 }
 
+bool sync_file(const char *path)
+{
+    int file = open(path, O_RDONLY | O_NONBLOCK | O_CLOEXEC);
+    bool is_synced = file >= 0 && fsync(file) == 0;
+
+    close_file(&file);
+    return is_synced;
+}
+
 void close_file(int *file)
 {
     if (*file >= 0)

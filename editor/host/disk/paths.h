@@ -69,6 +69,9 @@ bool is_same(struct content one, struct content other);
 /* Reads all of an open file into memory of the caller's. TEXT_TOO_LONG where it has more than a text may have. */
 int read_all(int file, struct text *text);
 
+/* Has the disk have what a file has. Returns whether that is so. */
+bool sync_file(const char *path);
+
 /* Closes a file, where it is one, which is -1 then. */
 void close_file(int *file);
 

@@ -178,7 +178,7 @@ static struct event earlier_text(enum sam_note_code code, size_t tag, const char
 static void report_saved(struct search *search, size_t tag, const char *path, const struct left *left)
 {
     struct event event = earlier_text(left->is_newer ? SAM_NOTE_NEWER : SAM_NOTE_OLDER, tag, path, left);
-    bool is_written = left->is_read && is_same(content_of(&left->text), content_at(path));
+    bool is_written = left->is_read && is_same(content_of(&left->text), content_at(path)) && sync_file(path);
 
     if (is_copy_at(search->session, left->path) || (is_written && left->status.st_uid == geteuid() && unlink(left->path) == 0))
         return;

@@ -12,6 +12,7 @@ from pathlib import Path
 import sulgrevad
 from checks import GIVEN_UP, expect, wait_until
 
+from .line import traced
 from .support import (
     AGE, IDLE, IS_ROOT, LATE, LONGEST_UNSAVED, NOBODY, SAMHOST, Session, as_nobody, expect_equal, expect_line, expect_only, front_of,
     made, names_in, own_copy, own_lines, stop, text_of, with_disk, without_mount,
@@ -291,6 +292,18 @@ def check_left(folder):
         session.end()
     for name, text in left.items():
         expect_equal(text_of(folder / name), text, name)
+
+
+def check_left_goes_once_its_file_is_on_the_disk(folder):
+    """A copy whose text its file has goes once the disk has that file, which another program may just have written."""
+    (path,) = made(folder, a="one\n")
+    copy, log = folder / "a.txt.sam-saved", folder / "log"
+    copy.write_text("one\n")
+    with Session(folder, "a.txt", prefix=traced(log, "fsync,unlink")) as session:
+        expect_equal((session.told(), copy.exists()), ([], False), "what it says, and whether the copy is there")
+        session.end()
+    calls = [line.split()[1].split("(")[0] for line in log.read_text().splitlines() if f"<{path}>" in line or "unlink" in line]
+    expect_equal(calls[:2], ["fsync", "unlink"], f"of {calls} the first")
 
 
 def check_left_in_a_closed_folder(folder):
