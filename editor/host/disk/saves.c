@@ -109,10 +109,15 @@ static void remember_put(struct document *document, const struct request *reques
 /* Whether what a file was before a write in place is still beside it. */
 static bool has_old(const char *path)
 {
-    char *old = formatted("%s" OLD, path);
-    bool has_it = old != NULL && access(old, F_OK) == 0;
+    char base[BASE_ROOM];
+    char *folder = folder_of(path), *old = NULL;
 
+    base_of(path, base);
+    if (folder != NULL)
+        old = formatted("%s%s" OLD, folder, base);
+    bool has_it = old != NULL && access(old, F_OK) == 0;
     free(old);
+    free(folder);
     return has_it;
 }
 

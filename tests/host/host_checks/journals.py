@@ -259,21 +259,26 @@ def check_journal_of_a_close_killed_at_each_step(folder):
 
 def check_journal_of_a_write_in_place_killed_in_it(folder):
     """A samhost that is killed amid a write in place: the next one says that the write may have broken off, and where what the file was is.
-    The next write replaces what it has."""
-    (path,) = made(folder, a="one\ntwo\n")
-    os.link(path, folder / "b.txt")
-    with Staying(folder, "a.txt") as session:
-        with with_calls(pid_of(folder, session.name), "inject=ftruncate:signal=KILL:when=2"):  # the first is of what the file was
-            session.terminal.edit(1, 0, 8, "1\n")
-            session.terminal.write(1)
-            session.settle()
-        expect_equal(text_of(path), "1\ne\ntwo\n", "the file that was broken off")
-        said = [said for said in session.said() if "or a write that broke off, and .sam-old beside it has what it was" in said]
-        expect(len(said) == 1 and said[0].startswith("not written: a.txt: "), f"it says {session.said()}")
-        expect_equal(text_of(folder / "a.txt.sam-old"), "one\ntwo\n", "what the file was")
-        session.write()
-        expect_equal(text_of(path), "1\n", "the file")
-        session.leave()
+    The next write replaces what it has. So it is with a file whose copies don't have its name."""
+    for name, kept in (("a.txt", "a.txt.sam-old"), ("cut", "cut-*.sam-old")):
+        place = folder / name
+        place.mkdir()
+        made(place)
+        path = place / name
+        path.write_text("one\ntwo\n")
+        os.link(path, place / "b.txt")
+        with Staying(place, name) as session:
+            with with_calls(pid_of(place, session.name), "inject=ftruncate:signal=KILL:when=2"):  # the first is of what the file was
+                session.terminal.edit(1, 0, 8, "1\n")
+                session.terminal.write(1)
+                session.settle()
+            expect_equal(text_of(path), "1\ne\ntwo\n", f"{name}: the file that was broken off")
+            said = [said for said in session.said() if "or a write that broke off, and .sam-old beside it has what it was" in said]
+            expect(len(said) == 1 and said[0].startswith(f"not written: {name}: "), f"it says {session.said()}")
+            expect_equal([text_of(old) for old in place.glob(kept)], ["one\ntwo\n"], f"{name}: what the file was")
+            session.write()
+            expect_equal(text_of(path), "1\n", f"{name}: the file")
+            session.leave()
 
 
 def check_journal_torn(folder):
