@@ -15,6 +15,8 @@ local function command(name, method, words_of, options) vim.api.nvim_create_user
 command("Sulgrevad", "start", function(options) return options.args end,
   { nargs = "+", complete = function(...) return require("sulgrevad").complete(...) end })
 command("SulgrevadRun", "run", function(options) return options end, { nargs = 1, range = true })
+command("SulgrevadKept", "kept", function(options) return options end,
+  { nargs = "?", bang = true, complete = function(...) return require("sulgrevad").complete_kept(...) end })
 command("SulgrevadReconnect", "reconnect", function() end, {})
 
 local group = vim.api.nvim_create_augroup("sulgrevad", {})

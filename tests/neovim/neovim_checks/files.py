@@ -6,7 +6,7 @@ from pathlib import Path
 
 from checks import ROOT, expect, expect_equal, wait_until
 
-from .support import PLUGIN, TERMINAL, Place
+from .support import COMPLETE, PLUGIN, TERMINAL, Place
 
 
 def check_names(folder):
@@ -385,9 +385,6 @@ def check_completion(folder):
         expect("true" in neovim.lua(COMPLETE, "Sulgrevad tru"), "commands are not completed")
 
 
-COMPLETE = "return vim.fn.getcompletion(..., 'cmdline')"
-
-
 def check_takeover(folder):
     """A second Neovim takes a session over, with what was not written; the first is told, and keeps its text."""
     with Place(folder) as place:
@@ -477,7 +474,7 @@ def check_help(folder):
         neovim = place.neovim()
         neovim.command("help sulgrevad")
         expect("sulgrevad.txt" in neovim.lua("return vim.fn.expand('%')"), "there is no page")
-        for command in ("Sulgrevad", "SulgrevadRun", "SulgrevadReconnect"):
+        for command in ("Sulgrevad", "SulgrevadRun", "SulgrevadKept", "SulgrevadReconnect"):
             neovim.command(f"help :{command}")
         copy = folder / "doc"
         shutil.copytree(PLUGIN / "doc", copy)

@@ -7,7 +7,7 @@ import time
 
 from checks import GIVEN_UP, SAMHOST, expect, expect_equal, wait_until
 
-from .support import Neovim, Place
+from .support import COMPLETE, Neovim, Place
 
 
 def check_run(folder):
@@ -434,6 +434,52 @@ def check_copies_of_killed(folder):
         second.ask("nvim_command", f"Sulgrevad {place.host.command} notes.txt")
         second.wait_told(f"a text of notes.txt was kept here: {copy}, of 2")
         expect_equal((second.told.count("kept here"), copy.read_text()), (1, "onex\n"))
+
+
+def check_kept(folder):
+    """:SulgrevadKept lists what is kept here and at the host, shows one text exactly beside the buffer, and drops one here once it is sure."""
+    text = "\ufeffonex\r\n\0\n"
+    with Place(folder) as place:
+        here, other = folder / "neovim0/notes.txt.sam-here", folder / "neovim0/other.txt.sam-here"
+        saved = "sulgrevad://localhost/notes.txt.sam-saved"
+        here.parent.mkdir()
+        for path in (here, other):
+            path.write_bytes(text.encode())
+        for name in ("notes.txt.sam-saved", "notes.txt.sam-saved.txt"):
+            place.host.write(name, "saved\n")
+        place.host.write("notes.txt", "one\n")
+        neovim = place.neovim()
+        neovim.ask("nvim_command", f"Sulgrevad {place.host.command} notes.txt")
+        neovim.wait_told(f"kept here: {here}")
+        neovim.command("messages clear | SulgrevadKept")
+        neovim.wait_told(f"sulgrevad: {here}, of 2")
+        expect(f"{saved}, at the host" in neovim.told and neovim.told.count("\n") == 1, neovim.told)
+        expect_equal(neovim.lua(COMPLETE, "SulgrevadKept sul"), [saved])
+        for name, wanted in ((str(here), text), (saved, "saved\n")):
+            neovim.command(f"SulgrevadKept {name}")
+            expect_equal(neovim.lua(WINDOWS), [[name, True, True], ["sulgrevad://localhost/notes.txt", True, False]])
+            neovim.command("%diffget")
+            expect_equal(place.expect_same(neovim, "notes.txt"), wanted)
+            neovim.command("diffoff! | only")
+        for name in (str(other), saved):
+            neovim.command(f"silent! SulgrevadKept! {name}")
+            expect(neovim.lua("return vim.v.errmsg") != "", neovim.told)
+        neovim.ask("nvim_ui_attach", 400, 10, {})  # else nobody is asked
+        for answer, is_there in (("n", True), ("y", False)):
+            neovim.ask("nvim_input", f":SulgrevadKept! {here}<CR>")
+            wait_until(lambda: neovim.ask("nvim_get_mode")["blocking"], "nobody asks")
+            neovim.keys(answer)
+            expect_equal((answer, here.exists()), (answer, is_there))
+        expect_equal((other.read_bytes().decode(), place.host.read("notes.txt.sam-saved")), (text, "saved\n"))
+
+
+# Of each window the name of its text, whether it is compared, and whether it is only read.
+WINDOWS = """
+return vim.tbl_map(function(window)
+  local buf = vim.api.nvim_win_get_buf(window)
+  return { vim.api.nvim_buf_get_name(buf), vim.wo[window].diff, vim.bo[buf].readonly }
+end, vim.api.nvim_list_wins())
+"""
 
 
 def check_copies_of_refused(folder):

@@ -108,6 +108,8 @@ end)()
 # What the terminal of the current buffer's session has as its text.
 TERMINAL = "(function() local file = require('sulgrevad').files[vim.api.nvim_get_current_buf()] return file.session:shown(file.tag) end)()"
 
+COMPLETE = "return vim.fn.getcompletion(..., 'cmdline')"
+
 
 class Host:
     """A folder with files, and a command that runs samhost beside them, over a line that can be slow, or dead for a time."""

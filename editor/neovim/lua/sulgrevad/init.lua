@@ -178,15 +178,65 @@ function M.complete(lead, line, position)
   return found
 end
 
--- :SulgrevadRun LINE: runs a command line of sam on the buffer, from its cursor on, or on the lines of a range.
-function M.run(options)
+-- The file of the current buffer.
+local function current_file()
   local file = M.files[api.nvim_get_current_buf()]
   if not file or not file.is_filled then fail "the buffer is of no file of a host" end
+  return file
+end
+
+-- :SulgrevadRun LINE: runs a command line of sam on the buffer, from its cursor on, or on the lines of a range.
+function M.run(options)
+  local file = current_file()
   if file.session.over then fail("%s", file.session.over) end
   if options.args:find "\n" then fail "one line at a time" end
   local row, column = unpack(api.nvim_win_get_cursor(0))
   local is_range = options.range > 0
   file.session:run(file, options.args, is_range and { options.line1 - 1, 0 } or { row - 1, column }, is_range and { options.line2, 0 })
+end
+
+-- The texts that are kept of the files of the buffer's session, here, and beside the files at the host if that answers soon: by the names by
+-- which Neovim opens them, a line about each.
+local function kept_texts()
+  local session, kept, asked = current_file().session, {}, 0
+  for _, file in pairs(session.files) do
+    for name, written in pairs(session:left(file)) do kept[name] = ("%s, of %s"):format(name, os.date("%F %T", written)) end
+    asked = asked + 1
+    session:request(require("sulgrevad.library").C.SAM_NOTE_COMPLETE, 0, file.path .. ".sam-saved", function(note)
+      asked = asked - 1
+      for found in note.path:gmatch "([^\n]+%.sam%-saved%.?%d*)\n" do
+        local name = ("sulgrevad://%s/%s%s"):format(session.label, file.path:match "^.*/" or "", found)
+        kept[name] = name .. ", at the host"
+      end
+    end)
+  end
+  wait(session, SECONDS_TO_COMPLETE, function() return asked == 0 end)
+  return kept
+end
+
+local function sorted(list)
+  table.sort(list)
+  return list
+end
+
+-- :SulgrevadKept[!] [TEXT]: lists the texts that are kept, compares one with the buffer, or drops one that is here.
+function M.kept(options)
+  local kept, name = kept_texts(), options.args
+  if name == "" then
+    return say(next(kept) and table.concat(sorted(vim.tbl_values(kept)), "\n") or "no text of the session's files is kept")
+  end
+  if not kept[name] then fail("no text is kept in %s", name) end
+  if not options.bang then
+    vim.cmd(("diffthis | noswapfile vertical split ++bin %s"):format(vim.fn.fnameescape(name)))
+    return vim.cmd "diffthis | set readonly | wincmd p"
+  end
+  if name:find "^sulgrevad:" then fail "the host drops its text itself, once the file has the same" end
+  if vim.fn.confirm(("Drop %s for good?"):format(name), "&Yes\n&No", 2) == 1 then assert(vim.loop.fs_unlink(name)) end
+end
+
+-- Completes the names of texts that are kept.
+function M.complete_kept(lead)
+  return sorted(vim.tbl_filter(function(name) return vim.startswith(name, lead) end, vim.tbl_keys(kept_texts())))
 end
 
 -- :SulgrevadReconnect: tries lost lines at once.

@@ -532,12 +532,18 @@ function Session:words_of_copy(file)
   return copy and ("the text of %s is in %s"):format(file.path, copy)
 end
 
+-- Where texts of a file are kept here, by their paths, and when each was written, but for those that this session renews and removes.
+function Session:left(file)
+  local left = copies.left(self.line.folder, file.path)
+  for _, copy in pairs(self.over and {} or self.copies) do left[copy] = nil end
+  return left
+end
+
 -- Says where earlier sessions have kept texts of a file: the host may lack what these have.
 function Session:tell_left(file)
-  local own = vim.tbl_values(self.copies)
-  for copy, written in pairs(copies.left(self.line.folder, file.path)) do
-    local words = "a text of %s was kept here: %s, of %s"
-    if not vim.tbl_contains(own, copy) then M.say(words:format(file.path, copy, os.date("%F %T", written)), "WarningMsg") end
+  for copy, written in pairs(self:left(file)) do
+    local words = "a text of %s was kept here: %s, of %s; :SulgrevadKept compares or drops it"
+    M.say(words:format(file.path, copy, os.date("%F %T", written)), "WarningMsg")
   end
 end
 
