@@ -229,6 +229,39 @@ def check_global(folder):
         expect(place.expect_same(neovim, "notes.txt") == text, "the text is another")
 
 
+MOST_CALLS = 0.2  # of the library, for each line
+MOST_TIMES_CALLS = 2.3  # as many for twice as many lines
+# Gives a command. How many calls of the library it takes until the session of the current buffer rests.
+CALLS = """
+local library, made = require "sulgrevad.library", 0
+local try = library.try
+library.try = function(...)
+  made = made + 1
+  return try(...)
+end
+vim.cmd(...)
+require("sulgrevad").files[vim.api.nvim_get_current_buf()].session:go_on()
+library.try = try
+return made
+"""
+
+
+def check_substitution(folder):
+    """A :s over many lines, and its undo, take few calls of the library, which grow as the lines do; the host has the same text then."""
+    with Place(folder) as place:
+        neovim, counts = place.neovim(), []
+        for lines in (5000, 10000):
+            text = "an x in a line\n" * lines
+            place.host.write(f"{lines}.txt", text)
+            place.open(neovim, f"{lines}.txt")
+            for command, wanted in (("%s/x/word/", text.replace("x", "word")), ("undo", text)):
+                counts.append(neovim.lua(CALLS, command))
+                expect(counts[-1] < MOST_CALLS * lines, f"{counts[-1]} calls of the library for {command} over {lines} lines")
+                neovim.wait_settled()
+                expect(place.expect_same(neovim, f"{lines}.txt") == wanted, f"the text is another after {command}")
+        expect(counts[2] < MOST_TIMES_CALLS * counts[0] and counts[3] < MOST_TIMES_CALLS * counts[1], f"calls of the library: {counts}")
+
+
 # Has a command line of the session change the text of the current buffer, which the host has otherwise.
 CHANGE = """
 local file = require("sulgrevad").files[vim.api.nvim_get_current_buf()]

@@ -41,13 +41,21 @@ for _ = 1, 3000 do
   end
   expect(table.concat(made) .. old:sub(at + 1) == new, "differences", old, new)
   expect(made_by_runes(old, text.differences(old, new)) == new, "differences by runes", old, new)
+  local joined = text.together(old, text.differences(old, new))
+  expect(made_by_runes(old, joined) == new and #joined < 2, "differences that are near", old, new)
 end
 
 -- Lines that stay between lines that change are no part of a difference; very many differences are one.
 expect(#text.differences("a ink\nb\nc\n", "a inky\nb\n\nc\n") == 2, "two lines")
 local many = ("x\ny\n"):rep(12000)
-expect(#text.differences(many, (many:gsub("x", "z"))) == 1, "many differences")
-expect(#text.differences(many, (many:gsub("x", "z")), true) == 12000, "all differences")
+local all = text.differences(many, (many:gsub("x", "z")))
+expect(#all == 12000, "all differences")
+
+-- Differences that stand near each other are one, but few thousand bytes at most.
+local joined, far = text.together(many, all), ("x" .. ("y"):rep(100) .. "\n"):rep(10)
+expect(#joined < 20 and made_by_runes(many, joined) == many:gsub("x", "z"), "differences together", #joined)
+for _, change in ipairs(joined) do expect(change.to - change.from < 5000, "too many together", change.from, change.to) end
+expect(#text.together(far, text.differences(far, (far:gsub("x", "z")))) == 10, "differences that are far")
 
 -- Of what is no UTF-8 each byte gives way to U+FFFD.
 for bytes, wanted in pairs {
@@ -58,7 +66,7 @@ for bytes, wanted in pairs {
 end
 
 -- A buffer shows a text exactly, and edits of it as well.
-local session = { file_state = function() return { is_free = true } end }
+local session = { is_idle = true, file_state = function() return { is_free = true } end }
 local buf = vim.api.nvim_create_buf(true, false)
 local file = files.new(session, "a path", buf)
 for _ = 1, 1000 do
@@ -114,7 +122,8 @@ for _ = 1, 3000 do
   file.same, file.holes = session:shown()
   for loaded = 0, #file.same do expect(file:shown_place(loaded) == behind(loaded), "a place in a text with holes", shown, loaded) end
   local before, new = shown, file.same:gsub("[ab\n]", function() return math.random() < 0.3 and "xy" or nil end)
-  local changes, most = text.differences(file.same, new, true), math.random(0, 9)
+  local changes, most = text.differences(file.same, new), math.random(0, 9)
+  if #file.holes == 0 then changes = text.together(file.same, changes) end
   for n = math.min(#changes, most), 1, -1 do
     local change = changes[n]
     local start, last = behind(change.start), behind(change.last)

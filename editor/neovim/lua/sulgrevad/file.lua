@@ -13,6 +13,7 @@ local M, File = {}, {}
 File.__index = File
 
 local MOST_NOTED = 100 -- changes that are told one by one, until the client goes on
+local MOST_APART = 10000 -- differences that stay apart while the file is locked, which costs the client 0.1 seconds
 local APART = "the host has changed it meanwhile; :w NAME keeps this text here, :e! shows the host's"
 local space = api.nvim_create_namespace "sulgrevad"
 
@@ -111,7 +112,11 @@ end
 function File:replace(at, old, new)
   local front, back = self.same:sub(1, at), self.same:sub(at + #old + 1)
   local before, grown, shift, refusal = text.runes(front), 0, 0, nil
-  for _, change in ipairs(text.differences(old, new, self:is_free() or #self.holes > 0)) do
+  local changes = text.differences(old, new)
+  local acts_now = self.session.is_idle and self:is_free() -- so the host changes nothing between them
+  local is_apart = #self.holes > 0 or not acts_now and #changes <= MOST_APART
+  if not is_apart then changes = text.together(old, changes) end
+  for _, change in ipairs(changes) do
     local start = self:shown_place(before + change.start, change.start < change.last) -- a hole before what goes stays
     local last = self:shown_place(before + change.last)
     local status = self.session:try("replace", self.tag, start + shift, last + shift, change.text, #change.text)

@@ -98,6 +98,7 @@ function Session:ask(kind, tag, start, number, words)
   local event = library.event
   event.kind, event.tag, event.start, event.number, event.version = kind, tag or 0, start or 0, number or 0, VERSION
   self:must("ask", event, words or "", #(words or ""), library.count)
+  self.is_idle = false
   return tonumber(library.count[0])
 end
 

@@ -4,7 +4,8 @@ local ffi = require "ffi"
 local M = {}
 
 local NEWLINE = 10
-local MOST_DIFFERENCES = 10000 -- which cost the client 0.1 seconds while a file is locked
+local NEAR = 64 -- bytes between two differences, which are cheaper to send than an edit of its own
+local MOST_TOGETHER = 4096 -- bytes of differences that become one: what goes counts as long as what comes waits
 local REPLACEMENT = "\239\191\189" -- U+FFFD
 
 local function bytes_of(text) return ffi.cast("const uint8_t *", text) end
@@ -55,8 +56,7 @@ end
 -- The stretches in which two texts differ, ascending: bytes `from` up to `to` of the old one, which are its runes `start` up to `last`, and
 -- the `text` in their place. Where several lines differ these are compared line by line, so that what the host changes between them stays.
 -- Lines that came in come behind the line before them, if there is one: then what the host puts in before the next line can't part them.
--- More than MOST_DIFFERENCES are one, unless `all` are wanted.
-function M.differences(old, new, all)
+function M.differences(old, new)
   if old == new then return {} end
   local found, a, b, at, place = {}, bytes_of(old), bytes_of(new), 0, 0
   local function add(begin, before, after)
@@ -86,11 +86,21 @@ function M.differences(old, new, all)
         after:sub(new_ends[to + n] + 1, new_ends[to + math.min(last, came)]))
     end
   end
-  if #found > MOST_DIFFERENCES and not all then
-    found, at, place = {}, 0, 0
-    add(0, old, new)
-  end
   return found
+end
+
+-- Joins those differences from an old text that stand near each other, and returns what they are then.
+function M.together(old, changes)
+  local joined, last = {}, nil
+  for _, change in ipairs(changes) do
+    if last and change.from - last.to <= NEAR and math.max(change.to - last.from, #last.text) < MOST_TOGETHER then
+      last.text = last.text .. old:sub(last.to + 1, change.from) .. change.text
+      last.to, last.last = change.to, change.last
+    else
+      joined[#joined + 1], last = change, change
+    end
+  end
+  return joined
 end
 
 -- A byte that is not ASCII, with the bytes behind it that could belong to it: with U+FFFD in the place of each that is no UTF-8.
