@@ -22,7 +22,7 @@ command("SulgrevadReconnect", "reconnect", function() end, {})
 local group = vim.api.nvim_create_augroup("sulgrevad", {})
 local closes = { "BufDelete", "BufWipeout" }
 for method, names in pairs { read = "BufReadCmd", write = "BufWriteCmd", rename = "BufFilePre", unload = "BufUnload", delete = closes } do
-  local callback = calls(method, function(event) return event.buf, event.match end)
+  local callback = calls(method, function(event) return event.buf, event.match, event.event end)
   vim.api.nvim_create_autocmd(names, { group = group, pattern = "sulgrevad://*", callback = callback })
 end
 vim.api.nvim_create_autocmd("VimLeavePre", { group = group, callback = function()

@@ -100,6 +100,17 @@ def check_exact(folder):
         expect("not written" in neovim.lua("return vim.v.errmsg"), "a text is written with other ends of lines than the user wants")
 
 
+def check_unlisted(folder):
+    """A buffer that is only taken from the list of buffers has its file on: what is typed goes to the host, and :bwipe closes the file."""
+    with Place(folder) as place:
+        neovim = place.opened("notes.txt", "one\n")
+        neovim.command("set nobuflisted")
+        neovim.keys("Ax<Esc>")
+        expect_equal(place.expect_same(neovim, "notes.txt"), "onex\n")
+        neovim.command("bwipe")
+        neovim.wait("next(select(2, next(require('sulgrevad').sessions)).files) == nil")
+
+
 def check_emptied(folder):
     """Of a buffer without a line the terminal has no line either, at once."""
     with Place(folder) as place:

@@ -128,9 +128,10 @@ function M.unload(buf)
   if file and vim.v.exiting == vim.NIL then file.session:unload(file) end
 end
 
--- BufDelete: the host closes the file.
-function M.delete(buf)
+-- BufDelete, BufWipeout: the host closes the file, but where 'nobuflisted' only takes its buffer from the list.
+function M.delete(buf, _, event)
   local file = M.files[buf]
+  if event == "BufDelete" and not vim.bo[buf].buflisted then return end
   M.files[buf] = nil
   if file then file.session:close(file) end
 end
