@@ -100,6 +100,19 @@ def check_exact(folder):
         expect("not written" in neovim.lua("return vim.v.errmsg"), "a text is written with other ends of lines than the user wants")
 
 
+def check_fileformat(folder):
+    """Where a modeline or the user has set another 'fileformat', what the host changes comes to its place all the same."""
+    with Place(folder) as place:
+        neovim = place.opened("notes.txt", "one\ntwo\nthree\nfour\n")
+        neovim.command("set fileformat=dos")
+        neovim.keys("3GAx<Esc>")
+        neovim.command("SulgrevadRun ,x/o/c/0/")
+        neovim.wait_settled()
+        expect_equal(neovim.text, "0ne\ntw0\nthreex\nf0ur\n")
+        neovim.command("set fileformat=unix")
+        place.expect_same(neovim, "notes.txt")
+
+
 def check_unlisted(folder):
     """A buffer that is only taken from the list of buffers has its file on: what is typed goes to the host, and :bwipe closes the file."""
     with Place(folder) as place:

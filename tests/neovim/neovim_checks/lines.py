@@ -119,6 +119,8 @@ AMID = (
     ("2i/XX/", "2GA t<C-n>", "<C-n><Esc>", "one two\nXXthree three\nfour\nfive\n"),
     ("1a/new\\n/", "1GA x", "y<Esc>", "one two xy\nnew\nthree\nfour\nfive\n"),
     (",x/\\n/a/new\\n/", "4GA x", "y<Esc>", "one two\nnew\nthree\nnew\nfour\nnew\nfive xy\nnew\n"),
+    ("0a/new\\n/", ":set ve=all<CR>2G7|", "ix<Esc>:set ve=<CR>", "new\none two\nthree x\nfour\nfive\n"),
+    ("0a/new\\n/", "2GAx<C-o>", "zzy<Esc>", "new\none two\nthreexy\nfour\nfive\n"),
     ("0a/new\\n/", "1GVj<Esc>", ":'<lt>,'>d<CR>", "new\nfour\nfive\n"),
     ("0a/new\\n/", "1G0<C-v>j$", "A!<Esc>", "new\none two!\nthree!\nfour\nfive\n"),
 )
@@ -139,6 +141,30 @@ def check_amid(folder):
             neovim.ask("nvim_input", then)
             neovim.wait_settled()
             expect_equal((first, place.expect_same(neovim, "notes.txt")), (first, wanted))
+
+
+def check_undo_of_line(folder):
+    """U puts the line that the user changed last in the place of no other one, where the host has moved it."""
+    with Place(folder) as place:
+        neovim = place.opened("notes.txt", "one\ntwo\nthree\n")
+        neovim.keys("2GAx<Esc>")
+        neovim.command("SulgrevadRun 0a/new\\n/")
+        neovim.wait_settled()
+        neovim.keys("U")
+        expect_equal(place.expect_same(neovim, "notes.txt"), "new\none\ntwox\nthree\n")
+
+
+def check_marks(folder):
+    """Marks, and the places of the last insertion and the last change, stay at their lines, also where the host changes these."""
+    with Place(folder) as place:
+        neovim = place.opened("notes.txt", "one\ntwo\nthree\nfour\n")
+        neovim.keys("2Gma3Gmb4GAx<Esc>gg")
+        for line in (",x/o/c/0/", "1d", "0a/new\\nnew\\n/"):
+            neovim.command(f"SulgrevadRun {line}")
+            neovim.wait_settled()
+        expect_equal(neovim.lua("return { vim.fn.line \"'a\", vim.fn.line \"'b\" }"), [3, 4])
+        neovim.keys("giy<Esc>gg`.iz<Esc>")
+        expect_equal(place.expect_same(neovim, "notes.txt"), "new\nnew\ntw0\nthree\nf0urxzy\n")
 
 
 def check_amid_pattern(folder):

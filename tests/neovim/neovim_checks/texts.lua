@@ -87,7 +87,7 @@ for _ = 1, 3000 do
   expect(file:place_of(0, 0) == 0, "the first place")
   local size = text.size(wanted, place + #runes_of(new))
   expect(size == #table.concat(runes, "", 1, place) + #new, "the size of runes", wanted, place, size)
-  local row, column = file:spot(size)
+  local row, column = text.spot(text.line_ends(wanted), size)
   expect(file:place_of(row, column) == place + #runes_of(new), "the place of a spot", wanted, place, row, column)
 end
 

@@ -4,6 +4,7 @@
 --
 -- What the client has not loaded is left out of the buffer. `holes` has these parts, ascending: a `place` in the shown text, and a `count`.
 -- The host makes one where a command line puts in more than it tells at once.
+local ffi = require "ffi"
 local api = vim.api
 local library = require "sulgrevad.library"
 local text = require "sulgrevad.text"
@@ -64,13 +65,6 @@ end
 function File:offset(row)
   if row < api.nvim_buf_line_count(self.buf) then return row > 0 and api.nvim_buf_get_offset(self.buf, row) or 0 end
   return self:is_empty() and 0 or self:offset(row - 1) + #self:line(row - 1) + (vim.bo[self.buf].endofline and 1 or 0)
-end
-
--- The row of a byte of the text, and the column, which behind the last newline is one more than the row has.
-function File:spot(at)
-  local line = api.nvim_buf_call(self.buf, function() return vim.fn.byte2line(at + 1) end) -- -1 behind the text
-  local row = (line > 0 and line or api.nvim_buf_line_count(self.buf)) - 1
-  return row, at - self:offset(row)
 end
 
 -- The place in the shown text of a place in the buffer, before a hole that is there, or if `is_behind`, behind it.
@@ -184,11 +178,18 @@ function File:save_line()
   self.saved = api.nvim_buf_get_changedtick(self.buf)
 end
 
+pcall(ffi.cdef, "void *curbuf; void u_clearline(void *buf);")
+
+-- Has `U` forget the line of the current buffer that it would bring back: Neovim knows that by its number, which may be another line's now.
+local function forget_line()
+  pcall(function() ffi.C.u_clearline(ffi.C.curbuf) end)
+end
+
 -- Has `act` change the buffer, as a step of undo of its own, or as more of one that stayed open. Cursors and selections stay at their text.
 -- The step stays open where more of the host's answer is to come, until the user changes something. `act` is called again where a CTRL-C
 -- breaks it off: what is not done of it would count as the user's.
 function File:change(act)
-  local buf, marks, mode, column = self.buf, {}, vim.fn.mode(), vim.fn.winsaveview().curswant -- by `$` it is the end of each line
+  local buf, marks, mode, view = self.buf, {}, vim.fn.mode(), vim.fn.winsaveview()
   local was_modifiable, tick = vim.bo[buf].modifiable, api.nvim_buf_get_changedtick(buf)
   local is_open = self.open_step == tick or self.saved == tick -- nothing was typed into the step of that line
   self.is_changing = true
@@ -207,6 +208,7 @@ function File:change(act)
       vim.cmd(end_step .. ((is_open or tick ~= api.nvim_buf_get_changedtick(buf)) and "| silent! undojoin" or ""))
       act()
       vim.cmd(end_step)
+      forget_line()
     end)
   end)
   if start then
@@ -216,12 +218,18 @@ function File:change(act)
     pcall(vim.cmd, to_other_end)
   end
   for window, at in pairs(marks) do go_to(window, at) end
-  vim.fn.winrestview { curswant = column }
+  vim.fn.winrestview { curswant = view.curswant, coladd = view.coladd } -- by `$` the end of each line, and a place behind one
   self:save_line()
   if not was_modifiable then vim.bo[buf].modifiable = false end
   self.is_changing = nil
   self.open_step = self:has_more() and api.nvim_buf_get_changedtick(buf)
   if not is_right then error(why, 0) end
+end
+
+-- Calls `act` under a modifier of commands, and so that `g;` and the like find the last change of the user's, and not what `act` changes.
+local function under(modifier, act)
+  M.act = act
+  vim.cmd(("keepjumps %s lua require('sulgrevad.file').act()"):format(modifier))
 end
 
 -- Gives the buffer another text as a whole.
@@ -231,18 +239,20 @@ function File:set_all(new)
   vim.bo[self.buf].endofline = ends
 end
 
--- Puts a text in the place of bytes `from` up to `to` of the buffer. Lines that come in between two leave what stands at the ends of these.
-function File:put(from, to, new)
-  local row, column = self:spot(from)
-  local last_row, last_column = self:spot(to)
+-- Puts a text in the place of bytes `from` up to `to` of the buffer, whose lines end where `ends` says. Whole lines go and come as such, so
+-- what stands at the ends of those beside them stays, and so do their marks.
+function File:put(ends, from, to, new)
+  local row, column = text.spot(ends, from)
+  local last_row, last_column = text.spot(ends, to)
   local lines = vim.split(new, "\n", { plain = true })
-  local is_at_end = lines[1] == "" and column == #self:line(row)
-  if from == to and #lines > 1 and (is_at_end or lines[#lines] == "" and column == 0) then
-    table.remove(lines, is_at_end and 1 or #lines)
-    if is_at_end then row = row + 1 end
-    return api.nvim_buf_set_lines(self.buf, row, row, true, lines)
+  local is_behind = lines[1] == "" and column == #self:line(row) and last_column == #self:line(last_row)
+  local are_whole = is_behind or lines[#lines] == "" and column == 0 and last_column == 0
+  if not are_whole or row == last_row and #lines == 1 then
+    return api.nvim_buf_set_text(self.buf, row, column, last_row, last_column, lines)
   end
-  api.nvim_buf_set_text(self.buf, row, column, last_row, last_column, lines)
+  table.remove(lines, is_behind and 1 or #lines)
+  if is_behind then row, last_row = row + 1, last_row + 1 end
+  api.nvim_buf_set_lines(self.buf, row, last_row, true, lines)
 end
 
 -- Has the buffer have another text, where that differs. The texts are compared with a newline at their ends, which is the option.
@@ -252,12 +262,17 @@ function File:become(new)
     local old = self:text()
     if old == "" or new == "" then return self:set_all(new) end
     local before, ends = vim.bo[self.buf].endofline and old or old .. "\n", new:sub(-1) == "\n"
-    local changes = text.differences(before, ends and new or new .. "\n", true)
-    for n = #changes, 1, -1 do
-      local change = changes[n]
-      local past = change.to == #before and 1 or 0 -- the last lines go with the newline before them
-      self:put(change.from - past, change.to - past, change.text)
+    local changes, line_ends = text.differences(before, ends and new or new .. "\n"), text.line_ends(before)
+    local function put_those(are_within)
+      for n = #changes, 1, -1 do
+        local change = changes[n]
+        local past = change.to == #before and 1 or 0 -- the last lines go with the newline before them
+        local is_within = not (before:sub(change.from + 1, change.to) .. change.text):find("\n", 1, true)
+        if is_within == are_within then self:put(line_ends, change.from - past, change.to - past, change.text) end
+      end
     end
+    under("lockmarks", function() put_those(true) end) -- within lines, whose numbers stay, and so do the marks in them
+    under("", function() put_those(false) end)
     vim.bo[self.buf].endofline = ends
   end)
 end

@@ -511,7 +511,7 @@ function Session:end_run(request, place, count)
   if not run or not run.dot then return end
   local file = run.file
   if not file.is_filled or run.tick ~= api.nvim_buf_get_changedtick(file.buf) then return end
-  local row, column = file:spot(text.size(file.same, run.dot))
+  local row, column = text.spot(text.line_ends(file.same), text.size(file.same, run.dot))
   file:go_to(row, column, run.window)
 end
 

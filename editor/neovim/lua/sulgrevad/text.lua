@@ -44,13 +44,23 @@ local function trimmed(old, new)
 end
 
 -- Where each line of a text ends, by its number.
-local function line_ends(text)
+function M.line_ends(text)
   local ends, at = { [0] = 0 }, 0
   while at do
     at = text:find("\n", at + 1, true)
     ends[#ends + 1] = at or #text
   end
   return ends
+end
+
+-- The row of a byte of a text whose lines end so, and its column, which behind the last newline is one more than the row has.
+function M.spot(ends, at)
+  local row, last = 0, #ends - 1
+  while row < last do
+    local middle = math.ceil((row + last) / 2)
+    if ends[middle] <= at and ends[middle] < ends[#ends] then row = middle else last = middle - 1 end
+  end
+  return row, at - ends[row]
 end
 
 -- The stretches in which two texts differ, ascending: bytes `from` up to `to` of the old one, which are its runes `start` up to `last`, and
@@ -74,7 +84,7 @@ function M.differences(old, new)
   while not begins_line(a, first) do first = first - 1 end
   while i < #old and not (begins_line(a, i) and begins_line(b, j)) do i, j = i + 1, j + 1 end
   local before, after = old:sub(first + 1, i), new:sub(first + 1, j)
-  local old_ends, new_ends = line_ends(before), line_ends(after)
+  local old_ends, new_ends = M.line_ends(before), M.line_ends(after)
   for _, hunk in ipairs(vim.diff(before, after, { result_type = "indices" })) do
     local from, gone, to, came = unpack(hunk)
     if gone > 0 then from = from - 1 end -- where no line goes, the hunk names the one before
