@@ -463,7 +463,8 @@ def check_copies_of_killed(folder):
 
 
 def check_kept(folder):
-    """:SulgrevadKept lists what is kept here and at the host, shows one text exactly beside the buffer, and drops one here once it is sure."""
+    """:SulgrevadKept lists what is kept here and at the host, shows one text exactly beside the buffer, and drops one here if the user is
+    sure."""
     text = "\ufeffonex\r\n\0\n"
     with Place(folder) as place:
         here, other = folder / "neovim0/notes.txt.sam-here", folder / "neovim0/other.txt.sam-here"

@@ -196,8 +196,8 @@ function M.run(options)
   file.session:run(file, options.args, is_range and { options.line1 - 1, 0 } or { row - 1, column }, is_range and { options.line2, 0 })
 end
 
--- The texts that are kept of the files of the buffer's session, here, and beside the files at the host if that answers soon: by the names by
--- which Neovim opens them, a line about each.
+-- The texts that are kept of the files of the buffer's session, here, and beside the files at the host if that answers soon: a line about
+-- each, by the name by which Neovim opens it.
 local function kept_texts()
   local session, kept, asked = current_file().session, {}, 0
   for _, file in pairs(session.files) do
