@@ -104,6 +104,7 @@ def check_fileformat(folder):
     """Where a modeline or the user has set another 'fileformat', what the host changes comes to its place all the same."""
     with Place(folder) as place:
         neovim = place.opened("notes.txt", "one\ntwo\nthree\nfour\n")
+        neovim.lua("vim.api.nvim_echo = function() end")  # long words about an error would wait for a key
         neovim.command("set fileformat=dos")
         neovim.keys("3GAx<Esc>")
         neovim.command("SulgrevadRun ,x/o/c/0/")
