@@ -125,8 +125,10 @@ def browser(room):
     """A browser without a screen, with a profile of its own."""
     options = webdriver.ChromeOptions()
     options.binary_location = "/usr/bin/chromium"
-    for word in ("--headless=new", "--no-sandbox", "--disable-gpu", "--window-size=1000,640", f"--user-data-dir={room / 'profile'}"):
+    for word in ("--headless=new", "--no-sandbox", "--disable-gpu", "--disable-dev-shm-usage", "--window-size=1000,640"):
         options.add_argument(word)
+    options.add_argument(f"--user-data-dir={room / 'profile'}")
+    options.ignore_local_proxy_environment_variables()
     options.set_capability("goog:loggingPrefs", {"browser": "ALL"})
     driver = webdriver.Chrome(service=Service("/usr/bin/chromedriver"), options=options)
     driver.set_script_timeout(4 * SECONDS)

@@ -11,18 +11,25 @@ BINARY = b"\x82"  # begins a message of the host's bytes; samweb's own are of AS
 
 
 class Carried:
-    """A WebSocket's two connections, whether the host has answered, and whether what comes is dropped."""
+    """A WebSocket's two connections, whether the host has answered, whether what comes is dropped, and how many bytes may still come from
+    the host; None for any number."""
 
-    def __init__(self, near, far):
-        self.near, self.far, self.is_answered, self.is_swallowed = near, far, False, False
+    def __init__(self, near, far, most_down):
+        self.near, self.far, self.is_answered, self.is_swallowed, self.left = near, far, False, False, most_down
+
+    def takes(self, is_down, count):
+        """Whether so many bytes go on; from the host no more do once some didn't."""
+        if is_down and self.left is not None:
+            self.left = max(0, self.left - count)
+        return not self.is_swallowed and not (is_down and self.left == 0)
 
 
 class Proxy:
-    """Carries connections to a port of this machine. `refuses_lines` has those for a WebSocket closed at once. `has_prepared` says whether
-    a browser has asked for a page that it only prepares."""
+    """Carries connections to a port of this machine. `refuses_lines` has those for a WebSocket closed at once, and of the others each
+    brings `most_down` bytes at most. `has_prepared` says whether a browser has asked for a page that it only prepares."""
 
     def __init__(self, target):
-        self.target, self.refuses_lines, self.has_prepared = target, False, False
+        self.target, self.refuses_lines, self.most_down, self.has_prepared = target, False, None, False
         self.listener = socket.create_server(("127.0.0.1", 0))
         self.port = self.listener.getsockname()[1]
         self.lock, self.lines = threading.Lock(), []
@@ -39,16 +46,16 @@ class Proxy:
             first = near.recv(PIECE)
             self.has_prepared |= PREPARES in first
             is_line = LINE in first.split(b"\r\n", 1)[0]
-            if is_line and self.refuses_lines:
-                return
             with socket.create_connection(("127.0.0.1", self.target)) as far:
                 for end in (near, far):
                     end.setsockopt(socket.IPPROTO_TCP, socket.TCP_NODELAY, 1)  # else a second small message waits 40 ms
-                far.sendall(first)
-                carried = Carried(near, far)
+                carried = Carried(near, far, self.most_down if is_line else None)
                 if is_line:
                     with self.lock:
+                        if self.refuses_lines:
+                            return
                         self.lines.append(carried)
+                far.sendall(first)
                 try:
                     self._pump(carried)
                 finally:
@@ -68,7 +75,7 @@ class Proxy:
                     return
                 if not data:
                     ends.remove(ready)
-                elif not carried.is_swallowed:
+                elif carried.takes(ready is far, len(data)):
                     other[ready].sendall(data)
 
     def has_line(self, is_answered):
