@@ -43,10 +43,25 @@ export function isText(event) {
 /** Does what a key means in a field that was pressed before the field had the keyboard. */
 export function replayIn(field, event) {
   if (!field.dispatchEvent(new KeyboardEvent("keydown", event))) return; // what hears it has done it
-  const { selectionStart: start, selectionEnd: end } = field;
-  if (event.key === "Backspace") field.setRangeText("", start === end ? Math.max(0, start - 1) : start, end, "end");
+  const { selectionStart: start, selectionEnd: end, value } = field;
+  const [before, behind] = start === end ? [Math.max(0, start - 1), Math.min(value.length, end + 1)] : [start, end];
+  const place = { ArrowLeft: before, ArrowRight: behind, Home: 0, End: value.length }[event.key];
+  if (place !== undefined) field.setSelectionRange(place, place);
+  else if (event.key === "Backspace") field.setRangeText("", before, end, "end");
+  else if (event.key === "Delete") field.setRangeText("", start, behind, "end");
   else if (isText(event)) field.setRangeText(event.key, start, end, "end");
-  field.dispatchEvent(new Event("input"));
+  if (field.value !== value) field.dispatchEvent(new Event("input"));
+}
+
+const HIGH = /[\ud800-\udbff]$/; // the first half of a pair of surrogates
+const LOW = /^[\udc00-\udfff]/; // and the second
+
+/** Has a change take a pair of surrogates whole. CodeMirror goes by units where a composition changes, and keeps the first half of a sign
+ * whose second half alone is another one. */
+function widen(cm, change) {
+  const { from, to, text: [first, ...others] } = change;
+  const before = cm.getLine(from.line).slice(0, from.ch);
+  if (LOW.test(first) && HIGH.test(before)) change.update({ ...from, ch: from.ch - 1 }, to, [before.at(-1) + first, ...others]);
 }
 
 /** Begins a line with the blanks of the one above, as far as they stand before the caret. */
@@ -143,7 +158,8 @@ export class Input {
   #meetChange(change) {
     const { editor } = this;
     if (change.origin === OURS) return;
-    if (!change.text.every((line) => line.isWellFormed() && !line.includes("\0"))) {
+    widen(this.cm, change);
+    if (!this.#composesAside && !change.text.every((line) => line.isWellFormed() && !line.includes("\0"))) {
       change.cancel(); // places are no places in half of a pair of surrogates, and the host opens no file that has a zero
       editor.say("that is no text");
       return;

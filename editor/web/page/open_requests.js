@@ -13,6 +13,7 @@ export class Opening {
   #asking = 0; // questions for names that are not answered
   #held = []; // keys that wait for names, with all after them: so the same keys open the same file over any line
   #isReplaying = false;
+  #before = null; // the path, while an input method composes behind keys that wait
   #timer = 0;
   #names = [];
   #hasMore = false;
@@ -22,7 +23,9 @@ export class Opening {
 
   constructor(editor, find, box, field, list) {
     Object.assign(this, { editor, find, box, field, list });
-    field.addEventListener("input", () => this.#narrow());
+    field.addEventListener("input", () => this.#before === null && this.#narrow());
+    field.addEventListener("compositionstart", () => (this.#before = this.hasWaitingKeys ? field.value : null));
+    field.addEventListener("compositionend", ({ data }) => this.#meetComposed(data));
     field.addEventListener("keydown", (event) => this.#meetKey(event));
     field.addEventListener("paste", (event) => this.#meetPaste(event));
     field.addEventListener("blur", () => this.#meetBlur());
@@ -68,6 +71,15 @@ export class Opening {
     this.#held.push({ key: event.clipboardData.getData("text/plain").replaceAll("\r\n", "\n"), isPasted: true });
   }
 
+  /** So does what an input method has composed: the path is as it was. */
+  #meetComposed(text) {
+    if (this.#before === null) return;
+    this.field.value = this.#before;
+    this.#before = null;
+    this.#held.push({ key: text, isPasted: true });
+    this.#replay();
+  }
+
   /** Whether a key goes by names that are still to come. */
   #waits({ key }) {
     const { box, editor } = this;
@@ -78,7 +90,7 @@ export class Opening {
   #replay() {
     this.#isReplaying = true;
     try {
-      while (this.#held.length > 0 && !this.#waits(this.#held[0])) this.#do(this.#held.shift());
+      while (this.#held.length > 0 && this.#before === null && !this.#waits(this.#held[0])) this.#do(this.#held.shift());
     } finally {
       this.#isReplaying = false;
     }
@@ -99,6 +111,7 @@ export class Opening {
   /** Drops the keys that wait. What was typed behind a path, for its file, is given back. */
   giveUp() {
     clearInterval(this.#timer);
+    this.#before = null;
     const keys = this.#held.splice(0);
     const opens = keys.findIndex(({ key }) => key === "Enter");
     const behind = opens < 0 ? [] : keys.slice(opens + 1).filter((event) => event.key === "Enter" || isText(event));
