@@ -45,7 +45,7 @@ function earlier(key) {
 }
 
 export class Copies {
-  #database = opened();
+  #database = this.#opened();
   #due = new Map(); // copies that are to be in the browser, by their keys; one `isKept` once it is
   #asideCount = 0; // texts that were set aside
   #unsaved = new Set(); // files whose text the host could save nowhere
@@ -56,6 +56,13 @@ export class Copies {
   constructor(editor) {
     this.editor = editor;
     this.own = `${crypto.randomUUID()} `;
+  }
+
+  /** Opens the database. Where the user has the browser forget all that it keeps it is closed: the copies that are due are put anew. */
+  async #opened() {
+    const database = await opened();
+    database.onclose = () => this.#due.forEach((copy) => (copy.isKept = false));
+    return database;
   }
 
   /** A message of the host. It may tell that the text of a file is saved, in the file or beside it; or that it is nowhere. */
@@ -114,7 +121,7 @@ export class Copies {
       await this.#ask("readwrite", (store) => store.put(copy));
       copy.isKept = true;
     } catch ({ name }) {
-      if (name !== "QuotaExceededError") this.#database = opened(); // it is closed where the user has the browser forget all
+      if (name !== "QuotaExceededError") this.#database = this.#opened();
       this.editor.say("this browser keeps no copy of what the host may lack");
     } finally {
       this.#putting -= 1;
