@@ -41,19 +41,19 @@ export class Undo {
   /** Takes the last step back. `make` is given a stretch and its new text, and returns whether it made that change: else the step stays,
    * since the places of those before it are of the text without it. Returns whether there is such a step. */
   back(make) {
-    const step = this.#past.at(-1);
-    if (!step) return false;
-    const { start, gone, came } = step.change;
-    if (make({ start, end: start + runesOf(came), text: gone })) this.#future.push(this.#past.pop());
-    return true;
+    return this.#turn(this.#past, this.#future, "came", "gone", make);
   }
 
   /** Makes the last step again that was taken back, likewise. */
   again(make) {
-    const step = this.#future.at(-1);
-    if (!step) return false;
-    const { start, gone, came } = step.change;
-    if (make({ start, end: start + runesOf(gone), text: came })) this.#past.push({ ...this.#future.pop(), kind: "" });
+    return this.#turn(this.#future, this.#past, "gone", "came", make);
+  }
+
+  #turn(steps, others, stands, comes, make) {
+    const change = steps.at(-1)?.change;
+    if (!change) return false;
+    const { start, [stands]: gone, [comes]: text } = change;
+    if (make({ start, end: start + runesOf(gone), text })) others.push({ ...steps.pop(), kind: "" });
     return true;
   }
 }
