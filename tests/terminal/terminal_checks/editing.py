@@ -76,10 +76,13 @@ def check_on_the_way(folder):
             session.wait_for("on the way")
             expect("held" not in session.status() and "unsent" not in session.status(), f"something waits: {session.status()}")
         wait_until(lambda: "on the way" not in session.status(), "messages stay on the way")
-        time.sleep(0.2)
-        down = session.bytes_down()
-        time.sleep(3 * LINK / 1000)
-        expect(session.bytes_down() == down, "the host is asked again and again")
+
+        def is_silent():
+            down = session.bytes_down()
+            time.sleep(3 * LINK / 1000)
+            return session.bytes_down() == down
+
+        wait_until(is_silent, "the host is asked again and again")
         with session.stopped_host():
             session.keys("C-w")
             session.wait_for("on the way")

@@ -5,9 +5,7 @@ import signal
 import time
 from pathlib import Path
 
-from .support import SAMHOST, SAMHOST_WORD, STATE, Session, expect, made, not_of_root, wait_for_text, wait_until
-
-UNREAD = 0.5  # seconds that a line stands there until a key counts as pressed by someone who has read it
+from .support import SAMHOST, SAMHOST_WORD, STATE, UNREAD, Session, expect, made, not_of_root, wait_for_text, wait_until
 
 
 def check_new_file(folder):
@@ -52,7 +50,7 @@ def check_failed_write(folder):
         session.keys("C-q")
         session.wait_for("not written: nowhere/c.txt")
         session.keys("C-k")
-        session.answer("nowhere/c.txt was not written", "C-k")
+        session.answer("nowhere/c.txt was not written; ^K again", "C-k")
         wait_until(lambda: not session.rows("nowhere/c.txt"), "the file stays")
         session.wait_for_quiet()
         session.leave()
@@ -149,7 +147,7 @@ def check_no_room_anywhere(folder):
         session.wait_for("* a.txt")
         session.wait_for_quiet()
         session.keys("C-q")
-        session.answer("not written: a.txt", "C-q")
+        session.answer("not written: a.txt. ^Q again", "C-q")
         session.wait_for_end(5)
     expect(path.read_text() == "one\n", "the file is broken")
 
@@ -280,7 +278,7 @@ def check_files(folder):
         expect(session.shows("second"), "the first window is gone")
         session.type("x")
         session.keys("C-k")
-        session.answer("was not written", "C-k")
+        session.answer("was not written; ^K again", "C-k")
         wait_until(lambda: not session.shows("xfirst"), "the file is still shown")
         session.keys("C-o")
         session.wait_for("Files")

@@ -20,10 +20,11 @@ from .colours import expect_pygments
 from .messages import Note, NoteKind, aside, first_message, not_saved, said, wrong_messages, write_note
 from .pairs import Pair, opened
 from .stalled_line import OnTerminal
-from .support import SAMHOST_WORD, SECONDS, STATE, Session, expect, host_that, made, wait_until
+from .support import READ_AFTER, SAMHOST_WORD, SECONDS, STATE, Session, expect, host_that, made, wait_until
 
 HOST = Path(__file__).with_name("hostile_host.py")
 RUNES = "αβγδεζηθικλμνξο"  # that are typed: nothing else on the screen has them
+LEAVE = "\x11"  # the key
 MOST_FOR_A_KEY = 0.05  # seconds of the processor until it shows
 MOST_BESIDE_COLOURS = 0.01  # the same beside a lexer that takes for ever, and what a key costs without one
 SECONDS_TO_END = 5
@@ -54,12 +55,15 @@ def expect_quick(session, most, what):
     expect_cheap(lambda: statistics.median(costs_of_keys(session)), most, f"{what}: a key")
 
 
-def expect_end(session, what):
-    """The session is over soon."""
-    until = time.monotonic() + SECONDS_TO_END * times_longer()
+def expect_end(session, what, key=""):
+    """The session is over soon; a key is pressed for that again and again, as by someone who has read what it asks."""
+    until, pressed = time.monotonic() + SECONDS_TO_END * times_longer(), time.monotonic()
     while session.process.poll() is None and time.monotonic() < until:
         with contextlib.suppress(OSError):  # its end of the terminal goes before it does
             session.read(0.05)
+            if key and time.monotonic() - pressed >= READ_AFTER:
+                session.type(key)
+                pressed = time.monotonic()
     expect(session.process.poll() is not None, f"{what}: it doesn't end")
 
 
@@ -84,12 +88,11 @@ def check_lexers_that_take_for_ever(folder):
             expect_quick(session, MOST_BESIDE_COLOURS, name)
             if name.endswith("pl"):
                 os.kill(session.process.pid, signal.SIGTERM)
+                expect_end(session, name)
             else:
-                session.type("\x11")
+                session.type(LEAVE)
                 session.read_until("not written")
-                time.sleep(0.7)
-                session.type("\x11")
-            expect_end(session, name)
+                expect_end(session, name, LEAVE)
 
 
 def check_files_without_colours_are_told(folder):

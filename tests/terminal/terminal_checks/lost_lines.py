@@ -3,9 +3,11 @@ import os
 import signal
 import time
 
+from checks import Skipped, times_longer
+
 from .pairs import Kept, in_a_small_window, opened
 from .messages import NoteCode, aside
-from .support import SAMHOST, Session, expect, made, stat_of, wait_for_text, wait_until
+from .support import HELD_DOWN, SAMHOST, UNREAD, Session, expect, made, stat_of, wait_for_text, wait_until
 
 LINES = [f"line {number} {'x' * 60}\n" for number in range(1, 2001)]
 CUT, REST = "".join(LINES[99:1500]), "".join(LINES[:99] + LINES[1500:])
@@ -149,26 +151,33 @@ def expect_theirs(session, file, theirs, press):
     expect(kept.exists() and kept.read_text() == theirs, "another program's text is kept nowhere")
 
 
+def press_apart(session, seconds, count):
+    """Presses `^W` so often, with such pauses. Skips where the machine makes these so long that they are those of someone who has read what
+    was asked."""
+    times = []
+    for _ in range(count):
+        begin = time.monotonic()
+        session.keys("C-w")
+        times.append((begin, time.monotonic()))
+        time.sleep(seconds)
+    for (before, _), (_, after) in zip(times, times[1:]):
+        if after - before >= HELD_DOWN and after - times[0][0] >= UNREAD:
+            raise Skipped("the machine is so busy that quick keys are slow ones")
+
+
 def check_asks_to_replace(folder):
     """Two `^W` together, a moment apart, one that is held down, and two that come while samterm is held up replace no text of another
     program: neither in a file that was changed, nor in one that `f NAME` names."""
 
-    def apart(seconds, count=2):
-        words = ["send-keys", "C-w"]
-        for _ in range(count - 1):
-            words += [";", "run-shell", f"sleep {seconds}", ";", "send-keys", "C-w"]
-        return lambda session: session.tmux(*words)
-
     def while_stopped(session):
-        terminal = session.terminal()
-        os.kill(terminal, signal.SIGSTOP)
-        session.keys("C-w", "C-w")
-        os.kill(terminal, signal.SIGCONT)
+        with session.stopped_terminal():
+            session.keys("C-w", "C-w")
 
+    apart = lambda seconds, count=2: lambda session: press_apart(session, seconds, count)  # noqa: E731
     at_once = lambda session: session.keys("C-w", "C-w")  # noqa: E731
     for at, (press, slow, renames) in enumerate((
-        (at_once, 0, False), (at_once, 100, False), (apart(0.1), 0, True), (apart(0.3), 0, False), (apart(0.03, 20), 100, True),
-        (while_stopped, 0, False),
+        (at_once, 0, False), (at_once, 100, False), (while_stopped, 0, False), (apart(0.1), 0, True), (apart(0.3), 0, False),
+        (apart(0.03, 20), 100, True),
     )):  # fmt: skip
         place = folder / str(at)
         place.mkdir()
@@ -263,7 +272,7 @@ def check_no_answer(folder):
             is_early = not session.shows("no answer")
             expect(is_early or time.monotonic() - start > 0.9, "it is told too early")
             for seconds in (5, 7):
-                session.wait_for(f"no answer for {seconds} s")
+                session.wait_for_seconds("no answer for", seconds)
         wait_until(lambda: not session.shows("no answer"), "it stays though the host answers")
         session.wait_for_quiet()
         time.sleep(3.5)
@@ -290,13 +299,13 @@ def check_leaving_a_dead_line(folder):
                 else:
                     session.keys("C-d")
                 session.wait_for("no answer for")
-                start = time.monotonic()
                 session.keys("C-q")
                 if is_changed:
                     session.answer("the host doesn't answer. ^Q again leaves", "C-q")
+                start = time.monotonic()
                 session.wait_for_end(3 if is_changed else 0)
                 seconds = time.monotonic() - start
-                expect(seconds < 6, f"changed: {is_changed}: it takes {seconds:.1f} s")
+                expect(seconds < 6 * times_longer(), f"changed: {is_changed}: it takes {seconds:.1f} s")
             told = (place / "stderr").read_text()
         if is_changed:
             expect((place / "a.txt.sam-here").read_text() == "xone\n" and "a.txt.sam-here" in told, f"it tells {told!r}")

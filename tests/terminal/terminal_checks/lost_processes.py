@@ -5,7 +5,7 @@ import signal
 import sys
 import time
 
-from checks import expect_sleep
+from checks import expect_sleep, times_longer
 
 from .support import SAMHOST, SAMTERM, SAMTERM_WORD, Session, expect, made, wait_for_text, wait_until
 
@@ -120,7 +120,7 @@ def check_leave_without_the_host(folder):
             start = time.monotonic()
             os.kill(terminal, signal.SIGINT)  # `^C` would end the shell, too, that notes the status
             session.wait_for_end(3)
-            expect(time.monotonic() - start < 5, "it waits all the same")
+            expect(time.monotonic() - start < 5 * times_longer(), "it waits all the same")
         wait_for_text(folder / "a.txt.sam-here", "owaitsne\n")
 
 

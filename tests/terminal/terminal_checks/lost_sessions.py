@@ -1,7 +1,6 @@
 """Sessions that can't go on, or can't begin: why is told, and when that is final; the times of a line, and what waits for memory."""
 import contextlib
 import os
-import re
 import signal
 import time
 from unittest import mock
@@ -59,8 +58,9 @@ def check_session_that_is_not_there_yet(folder):
             session.wait_for("one")
             session.wait_for_quiet()
             (lock,) = state.glob("*/lock")
-            os.kill(int(lock.read_text()), signal.SIGKILL)
-            state.rename(folder / "away")
+            host = int(lock.read_text())
+            state.rename(folder / "away")  # before samterm can try another connection
+            os.kill(host, signal.SIGKILL)
             session.wait_for("the host doesn't find the session")
             session.type("x" if comes_back else "y")
             if comes_back:
@@ -68,7 +68,7 @@ def check_session_that_is_not_there_yet(folder):
                 wait_until(lambda: not session.shows("LINE LOST"), "it doesn't go on")
                 session.wait_for("xone")
             else:
-                wait_until(lambda: re.search(r"LINE LOST ([4-9]|\d\d) s, again", session.status()), "it never waits")
+                session.wait_for_seconds("LINE LOST", 4)
                 session.keys("F5")
                 session.wait_for("the session is not there any more")
                 session.keys("C-q")

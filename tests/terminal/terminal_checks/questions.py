@@ -159,13 +159,12 @@ def check_dropped_is_saved(folder):
     made(folder, a="one\n", b="two\n")
     with Session(folder, "a.txt", "b.txt") as session:
         change_two(session)
-        # By tmux itself, so that a busy machine doesn't make them later. Longer pauses `check_quick_keys_answer_nothing` has.
-        session.tmux("send-keys", "C-q", ";", "run-shell", "sleep 0.03", ";", "send-keys", "C-q")
+        session.keys("C-q", "C-q")  # at once, since a busy machine makes pauses longer: those `check_quick_keys_answer_nothing` has
         session.wait_for("^Q again leaves without them")
         session.keys("Left")
         wait_until(lambda: not session.shows("^Q again"), "two quick keys leave, or a key doesn't take the question back")
         session.keys("C-k")
-        session.answer("b.txt was not written", "C-k")
+        session.answer("b.txt was not written; ^K again", "C-k")
         wait_until(lambda: not session.shows("ytwo"), "the file stays")
         session.leave_unwritten()
     for name, text in (("a.txt", "xone\n"), ("b.txt", "ytwo\n")):

@@ -4,7 +4,6 @@ import io
 import os
 import signal
 import sys
-import time
 
 from .messages import aside, lost
 from .pairs import Kept, opened
@@ -200,7 +199,7 @@ def check_paste_broken_off(folder):
     with Session(folder, "a.txt") as session:
         session.wait_for("one")
         session.tmux("send-keys", "-H", *(f"{byte:x}" for byte in b"\x1b[200~first\nsecond "))
-        time.sleep(0.5)
+        session.wait_for("Esc twice")
         terminal = next(process for name, process in session.processes().items() if name.startswith("python"))
         os.kill(terminal, signal.SIGTERM)
         session.wait_for_end(128 + signal.SIGTERM)
@@ -242,7 +241,7 @@ def check_no_stray_text(folder):
             session.wait_for("* a.txt")
             if closes:
                 session.keys("C-k")
-                session.answer("a.txt was not written", "C-k")
+                session.answer("a.txt was not written; ^K again", "C-k")
                 wait_until(lambda: not session.rows("a.txt"), "the file stays")
                 session.leave()
             else:

@@ -22,7 +22,9 @@ COMMAND_WINDOW = "~~sam~~"  # its title
 NOBODY = 65534  # a user who may not do what root may
 STATE = ".state"  # the folder for what can't stand beside its file
 LONG_LOAD = "0 2000"  # a line on which 120 KB take a minute, as tools/delay has it: so no machine is so busy that all is there
-READ_AFTER = 0.7  # seconds after which a key answers a question that stands on the screen
+UNREAD, READ_AFTER = 0.5, 0.7  # seconds until which a line that stands on the screen counts as not read, and after which it was
+HELD_DOWN = 0.15  # seconds within which the same key again is one that is held down
+SECONDS_TO_ANSWER, MOST_ANSWERS = 5, 3  # seconds in which a question goes that a key has answered; and how often the key is pressed
 
 
 def stat_of(process):
@@ -205,6 +207,15 @@ class Session:
         """The status line; empty while it isn't drawn."""
         return next((line for line in self.screen() if "| up " in line), "")
 
+    def wait_for_seconds(self, words, least):
+        """Waits until the status line has these words and at least so many seconds: no machine is so busy that all greater ones pass."""
+
+        def told():
+            found = re.search(rf"{words} (\d+) s", self.status())
+            return found is not None and int(found[1]) >= least
+
+        wait_until(told, lambda: f"it doesn't tell {words!r} and {least} s: {self.status()}")
+
     def held(self):
         """How many keys wait."""
         found = re.search(r"\| held (\d+)", self.status())
@@ -226,11 +237,20 @@ class Session:
         self.keys("C-q")
         self.wait_for_end(0)
 
+    def line_with(self, words):
+        """The first line of the screen that has these words; empty where none has."""
+        return next((line for line in self.screen() if words in line), "")
+
     def answer(self, question, key):
-        """Answers a question once it stands on the screen, as someone who has read it."""
-        self.wait_for(question)
-        time.sleep(READ_AFTER)
-        self.keys(key)
+        """Answers a question once it stands on the screen, as someone who has read it. An editor that was held up takes a key for an early
+        one, and asks on: then it is pressed again."""
+        asked = wait_until(lambda: self.line_with(question), lambda: f"nobody asks {question!r}:\n" + "\n".join(self.screen()))
+        for _ in range(MOST_ANSWERS):
+            time.sleep(READ_AFTER)
+            self.keys(key)
+            with contextlib.suppress(Failed):
+                wait_until(lambda: self.line_with(question) != asked, "it stays", SECONDS_TO_ANSWER)
+                return
 
     def told(self):
         """The line that the host told, or another program in its place, where one stands there; else empty."""
