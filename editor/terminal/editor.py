@@ -424,6 +424,9 @@ class Editor(WindowLayout, KeyQueue, Actions):
         except MemoryError as error:
             self.message = f"there is not enough memory ({error})"
             self.keeping.typed_late += self.texts.left
+        except OSError as error:  # there can be no more descriptors, say
+            self.message = f"that can't be done now: {error.strerror or error}"
+            self.keeping.typed_late += self.texts.left
         except SamError as error:
             self.lose(f"the session can't go on ({error})")
             self.keeping.typed_late += self.texts.left

@@ -1,15 +1,20 @@
 """Texts that are written here while the line is lost: by a process of its own, which has them as they stand when it begins. So no key waits
-for the disk, or until a long text is read."""
+for the disk, be it one that never answers, or until a long text is read."""
 import contextlib
+import marshal
+import mmap
 import os
-import select
 import signal
+import threading
 import time
 from typing import Callable, Dict, List, NamedTuple, Optional
 
 from . import local_backup
 
-MOST_READ = 65_536  # bytes of what it tells that are read at once
+MOST_IN_PATH, MOST_BESIDE = 16_384, 65_536  # bytes that it can tell of each path, and of all else
+MOST_DESCRIPTORS = 256
+LONGEST = 10.0  # seconds that are waited for a disk at the end of the session: then it counts as one that never answers
+NAP = 0.005  # seconds between two looks whether the process has ended
 
 
 class Unsaved(NamedTuple):
@@ -22,86 +27,131 @@ class Unsaved(NamedTuple):
     what: str = ""
 
 
+def in_time(does: Callable[[], Optional[str]]) -> Optional[str]:
+    """What a call returns. It goes on in a thread of its own where a disk doesn't answer, and TimeoutError tells of that."""
+    found: List[Optional[str]] = []
+    errors: List[Exception] = []
+
+    def work() -> None:
+        try:
+            found.append(does())
+        except Exception as error:  # which is raised again
+            errors.append(error)
+
+    try:
+        thread = threading.Thread(target=work, daemon=True)
+        thread.start()
+    except RuntimeError:  # there can be no more threads
+        return does()
+    thread.join(LONGEST)
+    if errors:
+        raise errors[0]
+    if not found:
+        raise TimeoutError("the disk doesn't answer")
+    return found[0]
+
+
 class BackupProcess:
     """The paths of what was written."""
 
     def __init__(self) -> None:
         self.paths: Dict[str, str] = {}
         self.took = 0.0  # seconds, to write the last texts
+        self.is_stuck = False  # a disk has not answered for too long, so texts go to the user's own folder from then on
+        self._left: List[str] = []  # what stays on such a disk, until it answers
         self._process = 0  # that writes; 0 for none
-        self._told = -1  # what it tells of the paths
+        self._told: Optional[mmap.mmap] = None  # where it tells of the paths: a 1 once it has, and then these
 
     @property
     def is_writing(self) -> bool:
         """Whether the last texts are still written. Once they aren't it is known what their process told."""
-        if self._process and select.select([self._told], [], [], 0)[0]:
-            self.finish()
-        return self._process != 0
+        if self._process:
+            with contextlib.suppress(ChildProcessError):
+                if os.waitpid(self._process, os.WNOHANG)[0] == 0:
+                    return True
+            self._process = 0
+            if self._told[0]:  # else it was killed before
+                self.took, self.is_stuck, self.paths, self._left = marshal.loads(memoryview(self._told)[1:])
+        return False
 
     def write(self, texts: List[Unsaved]) -> None:
         """Begins to write texts, unless the last ones are still written. Copies of others go: of what is written at the host, or put in."""
-        if self.is_writing:
+        if self.is_writing or not (texts or self.paths or self._left):
             return
-        told, tells = os.pipe()
+        count = len(texts) + 2 * len(self.paths) + len(self._left)
         try:
-            process = os.fork()
+            self._told = mmap.mmap(-1, MOST_BESIDE + MOST_IN_PATH * count)  # which takes no descriptor
+            self._process = os.fork()
         except OSError:  # there can be no more processes
-            os.close(told)
-            os.close(tells)
             self._write(texts)
             return
-        if process == 0:
-            self._write_and_end(texts, tells)
-        os.close(tells)
-        self._process, self._told = process, told
+        if self._process == 0:
+            self._write_and_end(texts)
 
-    def _write_and_end(self, texts: List[Unsaved], tells: int) -> None:
+    def _write_and_end(self, texts: List[Unsaved]) -> None:
         """What the process does."""
         try:
             signal.set_wakeup_fd(-1)
+            os.closerange(0, MOST_DESCRIPTORS)  # so it can open files where there can be no more descriptors, and holds no screen
             self._write(texts)
-            import json  # which few sessions need
-
-            os.write(tells, json.dumps([self.took, self.paths]).encode())
+            data = marshal.dumps((self.took, self.is_stuck, self.paths, self._left))
+            self._told[1 : 1 + len(data)] = data
+            self._told[0] = 1
         finally:
             os._exit(0)
 
     def _write(self, texts: List[Unsaved]) -> None:
-        start = time.monotonic()
+        start, was_stuck = time.monotonic(), self.is_stuck
         for text in texts:
             with contextlib.suppress(Exception):  # it is tried again, and at the end it is told
-                path = local_backup.renew(text.name, self.paths.get(text.which), text.read())
+                path = self.renewed(text, self.paths.get(text.which))
                 if path is not None:
                     self.paths[text.which] = path
-        for which in self.paths.keys() - {text.which for text in texts}:
-            self._remove(which)
-        self.took = time.monotonic() - start
+        gone = [self.paths.pop(which) for which in self.paths.keys() - {text.which for text in texts}]
+        if not texts:
+            gone, self._left = gone + self._left, []
+        for path in gone:
+            self._remove(path)
+        self.took = time.monotonic() - start if self.is_stuck == was_stuck else 0.0
 
-    def _remove(self, which: str) -> None:
-        with contextlib.suppress(OSError):
-            local_backup.remove(self.paths.pop(which))
+    def _remove(self, path: str) -> None:
+        try:
+            in_time(lambda: local_backup.remove(path))
+        except TimeoutError:
+            self.is_stuck = True
+            self._left.append(path)
+        except OSError:  # it is gone, or can't be removed
+            pass
 
     def finish(self) -> None:
-        """Waits until all of it is written."""
-        if not self._process:
-            return
-        data = b""
-        while piece := os.read(self._told, MOST_READ):
-            data += piece
-        os.close(self._told)
-        with contextlib.suppress(ChildProcessError):
-            os.waitpid(self._process, 0)
-        self._process = 0
-        import json
-
-        with contextlib.suppress(ValueError):  # it was killed before it could tell
-            self.took, self.paths = json.loads(data)
+        """Waits until all of it is written. A process that takes too long is killed."""
+        until = time.monotonic() + LONGEST
+        while self.is_writing and time.monotonic() < until:
+            time.sleep(NAP)
+        if self._process:
+            os.kill(self._process, signal.SIGKILL)
+            self._process, self.is_stuck = 0, True
 
     def drop(self) -> None:
-        """What was written goes."""
+        """What was written goes, at the end of the session. It goes later where its disk doesn't answer."""
         self.finish()
-        for which in [*self.paths]:
-            self._remove(which)
+        self.write([])
+        if not self.is_stuck:
+            self.finish()
+
+    def renewed(self, text: Unsaved, old: Optional[str]) -> Optional[str]:
+        """Writes a text, in the place of an older copy where there is one, and waits for that; elsewhere where that disk doesn't answer.
+        Returns the path; None where it can be written nowhere."""
+        runes = text.read()
+        if not self.is_stuck or (old is not None and local_backup.is_aside(old)):
+            try:
+                return in_time(lambda: local_backup.renew(text.name, old, runes))
+            except TimeoutError:
+                self.is_stuck = True
+        path = in_time(lambda: local_backup.keep_aside(text.name, runes))
+        if old is not None and path is not None:
+            self._left.append(old)
+        return path
 
     def take(self, which: str) -> Optional[str]:
         """The path of a text, which is not one of these any more; None where there is none."""

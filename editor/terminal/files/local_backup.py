@@ -7,7 +7,7 @@ import sys
 import time
 from functools import partial
 from itertools import chain
-from typing import Callable, Collection, Dict, Iterator, List, Optional, Set, Tuple
+from typing import Callable, Collection, Dict, Iterable, Iterator, List, Optional, Set, Tuple
 
 from ..text.client_terminal import ClientTerminal
 from ..text.texts import GAP
@@ -20,6 +20,7 @@ LONGEST_BEGUN = 86_400  # seconds after which a file that is begun and has no te
 NEW = ".new"  # ends the name of such a file while it is written again
 SUFFIX = ".sam-here"  # what comes after the name of a file, and before a number
 ENDS = re.compile(re.escape(SUFFIX) + r"(\.\d+)?$")
+NUMBERED = re.compile("[0-9a-f]{16}-")  # begins the name of such a file in the user's own folder
 GAPS = re.compile(f"{GAP}+")
 TOLD_GAPS = re.compile(r"\[(\d+) characters that were not loaded\]")
 
@@ -103,7 +104,21 @@ def _places_of(whole: str, left: str, count: int, right: str) -> Optional[List[i
 def keep(name: str, text: str) -> Optional[str]:
     """Writes a text to a new file of this machine: NAME.sam-here in this folder, else in one of the user's own. Returns its path; None
     where none could be written."""
-    for front in chain((_base(name),), _own_fronts(name)):
+    return _keep_at(chain((_base(name),), _own_fronts(name)), name, text)
+
+
+def keep_aside(name: str, text: str) -> Optional[str]:
+    """The same in the user's own folders alone."""
+    return _keep_at(_own_fronts(name), name, text)
+
+
+def is_aside(path: str) -> bool:
+    """Whether the file of a path is there."""
+    return NUMBERED.match(os.path.basename(path)) is not None
+
+
+def _keep_at(fronts: Iterable[str], name: str, text: str) -> Optional[str]:
+    for front in fronts:
         path = _first_free(front, partial(_write, text))
         if path is not None:
             _note(name, os.path.realpath(path))

@@ -180,7 +180,7 @@ class UnsavedTexts:
         old, what = self._copies.take(text.which) or old, text.what or f"what is loaded of {text.name}".replace("\0", "")
         path, why = None, "no file can be written here"
         try:
-            path = local_backup.renew(text.name, old, text.read())
+            path = self._copies.renewed(text, old)
         except Exception as error:  # whatever it is, the other texts are written
             why = str(error) or why
         if path is not None:
@@ -240,7 +240,7 @@ class UnsavedTexts:
         way = self.editor.way
         if not way.is_late and self._here_at is not None and way.line.has_all and not self._copies.is_writing:
             self._here_at = None
-            self._copies.drop()
+            self._copies.write([])
 
     def write_put_off(self) -> None:
         """The line is back: files are written that were to be, unless another program's text stands there and the user doesn't know."""

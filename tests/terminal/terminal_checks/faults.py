@@ -1,7 +1,8 @@
-"""Signals, faults of the editor, and the host's stream in pieces and with faults."""
+"""Signals, faults of the editor, descriptors that are out, and the host's stream in pieces and with faults."""
 import contextlib
 import os
 import random
+import resource
 import shlex
 import signal
 import struct
@@ -9,8 +10,9 @@ import subprocess
 import sys
 from pathlib import Path
 
+from .left_texts import open_left
 from .pairs import Ends, Line
-from .support import ROOT, SAMHOST_WORD, SAMTERM, SAMTERM_WORD, Failed, Session, expect, made, stat_of, wait_for_text, wait_until
+from .support import ROOT, SAMHOST_WORD, SAMTERM, SAMTERM_WORD, Failed, Session, expect, host_that, made, stat_of, wait_for_text, wait_until
 
 
 def check_signals(folder):
@@ -127,6 +129,65 @@ def check_exception(folder):
         wait_for_text(folder / "typed.sam-here", "after")
     told = (folder / "stderr").read_text()
     expect("broken on purpose" in told and "a.txt.sam-saved" in told, f"it tells {told!r}")
+
+
+@contextlib.contextmanager
+def no_descriptors(process):
+    """A process can open nothing more meanwhile."""
+    before, used = resource.prlimit(process, resource.RLIMIT_NOFILE), {int(entry.name) for entry in Path(f"/proc/{process}/fd").iterdir()}
+    resource.prlimit(process, resource.RLIMIT_NOFILE, (min({*range(len(used) + 1)} - used), before[1]))
+    try:
+        yield
+    finally:
+        resource.prlimit(process, resource.RLIMIT_NOFILE, before)
+
+
+def check_descriptors_are_out_on_a_lost_line(folder):
+    """Where samterm can open nothing more while the line is lost, it goes on: texts are written here all the same, and no longer once the
+    line is back."""
+    (path,) = made(folder, a="one\n")
+    block, here = folder / "block", folder / "a.txt.sam-here"
+    host = host_that(folder, f"[ ! -e {block} ] || exit 1", f'exec {SAMHOST_WORD} "$@"')
+    with Session(folder, "a.txt", host=host, stays=True, width=120) as session:
+        session.wait_for("one")
+        session.wait_for_quiet()
+        block.touch()
+        session.break_line()
+        session.wait_for("again in")
+        with no_descriptors(session.terminal()):
+            for typed in ("x", "xy"):
+                session.type(typed[-1])
+                session.wait_for(f"{typed}one")
+                wait_for_text(here, f"{typed}one\n")
+            block.unlink()
+            session.wait_for_seconds("LINE LOST", 5)
+            session.keys("F5")  # no connection can be made
+            session.type("z")
+            session.wait_for("xyzone")
+        session.keys("F5")
+        wait_until(lambda: not session.shows("LINE LOST"), "the line doesn't come back")
+        wait_until(lambda: not here.exists(), "the copy stays")
+        session.keys("C-w")
+        wait_for_text(path, "xyzone\n")
+        session.leave()
+
+
+def check_descriptors_are_out_at_a_key(folder):
+    """A key for which samterm has to open a file says why it can't act, and acts once it can."""
+    made(folder, a="one\n")
+    (folder / "a.txt.sam-saved").write_text("two\n")
+    with Session(folder, "a.txt", width=140) as session:
+        session.wait_for("newer than the file; F9 takes it")
+        session.read()
+        open_left(session, "a.txt: ")
+        with no_descriptors(session.terminal()):
+            session.type("c")
+            session.wait_for("that can't be done now: ")
+        session.type("c")
+        session.wait_for("+ two")
+        session.keys("Escape")
+        wait_until(lambda: not session.shows("+ two"), "Esc doesn't end the list")
+        session.leave()
 
 
 BINDNAME, NEWNAME, GROW, DATA, SETDOT, GROWDATA, DIRTY, CUT = 66, 68, 70, 73, 76, 77, 80, 81

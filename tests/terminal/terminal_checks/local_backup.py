@@ -1,10 +1,12 @@
 """That no text is dropped: what is written here when the host is gone or can't have saved all, and what else may lose one."""
 import contextlib
 import errno
+import functools
 import os
 import random
 import shutil
 import signal
+import threading
 from pathlib import Path
 from unittest import mock
 
@@ -246,10 +248,39 @@ def with_a_copy(folder, name):
     return pair, editor, copy
 
 
+def wait_for_copies(editor):
+    """Waits until the copies are written, or gone."""
+    wait_until(lambda: not editor.keeping._copies.is_writing, "the copies are never written")
+
+
 def copy_here(editor):
     """Has the copies be written, as is done every ten seconds."""
     editor.keeping.write_here()
-    editor.keeping._copies.finish()
+    wait_for_copies(editor)
+
+
+@contextlib.contextmanager
+def hanging(place, pipe):
+    """The disk of a folder answers nothing meanwhile: what writes or removes a copy there waits. Answers what held up this process."""
+    from terminal.files import local_backup
+
+    os.mkfifo(pipe)
+    process, held_up, before = os.getpid(), [], {name: getattr(local_backup, name) for name in ("write_again", "remove")}
+
+    def hung(name, path, *words):
+        if Path(path).parent == place and os.getpid() == process and threading.current_thread() is threading.main_thread():
+            held_up.append(name)
+        elif Path(path).parent == place:
+            os.close(os.open(pipe, os.O_RDONLY))  # which waits for a writer
+        return before[name](path, *words)
+
+    for name in before:
+        setattr(local_backup, name, functools.partial(hung, name))
+    try:
+        yield held_up
+    finally:
+        vars(local_backup).update(before)
+        os.open(pipe, os.O_RDWR)  # all that waits goes on
 
 
 def elsewhere(folder):
@@ -282,6 +313,62 @@ def check_copy_whose_folder_takes_nothing(folder):
         found = local_backup.left(["file0"])
         expect(found == {"file0": [str(kept)]}, f"{told}: once its folder is back it is offered {found}")
         expect(not editor.keeping.is_hopeless, f"{told}: the status says that a text is lost")
+
+
+def expect_no_key_waits(pair, held_up, told):
+    """Keys show at once, and what is written or removed meanwhile hangs."""
+    before = pair.editor.focus.length
+    for rune in "zz":
+        pair.editor.take(pair.keys.Text(rune))
+        pair.settle()
+    expect(pair.editor.focus.length == before + 2 and not held_up, f"{told}: keys wait for {held_up}")
+
+
+def check_folder_that_hangs(folder):
+    """Where the disk of a copy doesn't answer, no key waits for it, neither as the copy is renewed, nor as it goes, since the line is back;
+    and after some seconds the text is written elsewhere. All of it goes once the disk answers."""
+    from terminal.files import backup_process
+
+    pair, editor, copy = with_a_copy(folder, "here")
+    line, copies = editor.way.line, editor.keeping._copies
+    with mock.patch.object(backup_process, "LONGEST", 3.0):
+        with hanging(copy.parent, folder / "renewed") as held_up:
+            for text in ("xya\n", "xyzza\n"):
+                editor.keeping.write_here()
+                if not elsewhere(folder):
+                    expect_no_key_waits(pair, held_up, "it is renewed")
+                wait_for_copies(editor)
+                expect(elsewhere(folder) == [text] and copy.read_text() == "xa\n", f"elsewhere are {elsewhere(folder)}, wanted {text!r}")
+        line.is_broken, line.has_all = False, True
+        with hanging(copy.parent, folder / "gone") as held_up:
+            pair.finish()
+            expect_no_key_waits(pair, held_up, "the line is back")
+            wait_for_copies(editor)
+            expect(elsewhere(folder) == [] and copy.exists(), f"elsewhere are {elsewhere(folder)}, here is one: {copy.exists()}")
+    copies.drop()
+    wait_for_copies(editor)
+    expect(not copy.exists(), "it stays though its disk answers")
+
+
+def check_folder_that_hangs_at_the_end(folder):
+    """Where the disk of a copy doesn't answer as the host is lost, the text is written elsewhere after some seconds, also where it was just
+    to be renewed."""
+    from terminal.files import backup_process
+
+    for is_renewed in (False, True):
+        place = folder / str(is_renewed)
+        place.mkdir()
+        pair, editor, copy = with_a_copy(place, "here")
+        with mock.patch.object(backup_process, "LONGEST", 5.0), hanging(copy.parent, place / "pipe") as held_up:
+            if is_renewed:
+                editor.keeping.write_here()
+            editor.lose("the host is gone")
+            expect(not held_up, f"renewed: {is_renewed}: it waits for {held_up}")
+            (kept,) = [path for path in (place / STATE / "sulgrevad").iterdir() if not path.is_symlink()]
+            told = editor.kept_here
+        wait_until(lambda: threading.active_count() == 1, "it hangs still")
+        expect(kept.read_text() == "xya\n", f"renewed: {is_renewed}: it keeps {kept.read_text()!r}")
+        expect(told == [f"what is loaded of file0 is here in {kept}"], f"renewed: {is_renewed}: it tells {told}")
 
 
 def check_copy_of_a_renamed_file(folder):
@@ -345,6 +432,7 @@ def check_copies_of_what_is_in_no_open_text(folder):
             copy_here(editor)
         else:
             pair.finish()
+            wait_for_copies(editor)
         return {path.name: path.read_text() for path in folder.glob("*.sam-here*")}
 
     pair.press(text("z"), key("^K"), key("^K"))
