@@ -7,7 +7,8 @@ import re
 import unicodedata
 from bisect import bisect_right
 from functools import lru_cache
-from typing import Callable, List, NamedTuple, Optional, Sequence, Tuple
+from itertools import accumulate
+from typing import Callable, Dict, List, NamedTuple, Optional, Sequence, Tuple
 
 from ..text.texts import GAP, Change
 
@@ -352,10 +353,29 @@ def row_start(read: Reader, place: int, width: int) -> int:
     return _starts_of_rows(read, start, end, width)[-1]
 
 
+class Columns(Dict[str, int]):
+    """How many columns a rune takes, as far as that was asked for; 0 for one whose columns go by those before it."""
+
+    def __missing__(self, rune: str) -> int:
+        self[rune] = columns = 0 if rune in (GAP, "\t") else looks(rune)[1]
+        return columns
+
+
+_columns = Columns()
+
+
 @lru_cache(maxsize=1024)
 def _last_row(text: str, width: int) -> int:
-    """Where the last row of a piece of a line begins."""
-    return _new_strips(text, width, False)[-1].start
+    """Where the last row of a piece of a line begins. Where each rune takes one column or two no row is worked out."""
+    columns, width = bytes(map(_columns.__getitem__, text)), max(width, 2)
+    if columns.translate(None, b"\1\2"):
+        return _new_strips(text, width, False)[-1].start
+    ends = [*accumulate(columns)]
+    start = used = 0
+    while ends and ends[-1] - used > width:
+        start = bisect_right(ends, used + width)
+        used = ends[start - 1]
+    return start
 
 
 class Above(NamedTuple):

@@ -1,4 +1,5 @@
 """What stands on the screen, in tmux."""
+import random
 import re
 import time
 from types import SimpleNamespace
@@ -46,6 +47,19 @@ def check_rows_of_letters(folder):
             expect(rows(layout.strips_of(line, width, True)) == rows(maker.strips), f"{width} columns: the rows differ")
         finally:
             layout.StripMaker.add = add
+
+
+def check_last_row_of_a_piece(folder):
+    """Where the last row of a piece of a line begins is the same where it is worked out without the rows."""
+    from terminal.text.texts import GAP
+    from terminal.view import layout
+
+    for seed in range(2000):
+        numbers = random.Random(seed)
+        runes = numbers.choice(("ab日本", "ab日本é𝄞\x01", f"a日e\u0301\t\u202e{GAP}"))
+        text, width = "".join(numbers.choice(runes) for _ in range(numbers.randrange(60))), numbers.randrange(1, 14)
+        got, wanted = layout._last_row(text, width), layout.strips_of(text, width, False)[-1].start
+        expect(got == wanted, f"the last of {width} columns of {text!r} begins at {got}, wanted {wanted}")
 
 
 def check_c_locale(folder):

@@ -407,6 +407,28 @@ def check_cost_of_a_key_in_the_editor(folder):
     expect(pair.host.text(1).startswith("line 0 "), "this test is wrong: the keys went elsewhere")
 
 
+def check_cost_of_a_long_line(folder):
+    """`^End` in a long line costs little of a quiet processor, also where its characters are wide, and so its rows are not all as long."""
+    from terminal.view import layout
+
+    numbers = random.Random(1)
+    pair, editor, key, text = opened("".join(numbers.choice((",", chr(numbers.randrange(0x4E00, 0x5500)))) for _ in range(900_000)))
+    while (gap := pair.terminal.first_gap(1)) is not None:
+        pair.terminal.load(1, gap, min(400_000, pair.terminal.len(1) - gap))
+        pair.finish()
+
+    def cost():
+        pair.press(key("^Home"))
+        layout._last_row.cache_clear()
+        before = time.process_time()
+        editor.take(key("^End"))
+        editor.update()
+        return time.process_time() - before
+
+    expect_cheap(cost, 0.4, "^End")
+    expect(editor.focus.layout().shows(900_000), "this test is wrong: the end is not shown")
+
+
 PIECE = 65_536  # bytes of the host that the loop reads at once; keys are taken between two pieces
 
 
