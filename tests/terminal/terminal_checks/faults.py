@@ -153,7 +153,7 @@ def check_descriptors_are_out_on_a_lost_line(folder):
         session.wait_for_quiet()
         block.touch()
         session.break_line()
-        session.wait_for("again in")
+        session.wait_for_seconds(r"LINE LOST \d+ s, again in", 3)  # so none is in the way of a connection
         with no_descriptors(session.terminal()):
             for typed in ("x", "xy"):
                 session.type(typed[-1])
