@@ -7,7 +7,7 @@ import signal
 from .hostile import hostile
 from .messages import Note, NoteCode, NoteKind, aside, first_message, lost, not_saved, said, write_note
 from .pairs import Kept, Pair, opened
-from .support import SAMHOST, SAMHOST_WORD, Session, change_two, expect, host_that, made, wait_for_text, wait_until
+from .support import LONG_LOAD, SAMHOST, SAMHOST_WORD, Session, change_two, expect, host_that, made, wait_for_text, wait_until
 
 
 def check_quit_by_selection(folder):
@@ -270,8 +270,8 @@ def check_text_lost(folder):
 
 def check_host_lost_with_a_text(folder):
     """The host is lost: what was changed is written here, its gaps marked, and the screen and standard error name the file."""
-    made(folder, a="".join(f"line {number}\n" for number in range(3000)))
-    with Session(folder, "a.txt", slow=20) as session:
+    made(folder, a="".join(f"line {number}\n" for number in range(20_000)))
+    with Session(folder, "a.txt", slow=LONG_LOAD) as session:
         session.wait_for("line 14")
         session.type("typed ")
         session.wait_for("typed line 0")
