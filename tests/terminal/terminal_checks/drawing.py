@@ -4,7 +4,7 @@ import re
 import time
 from types import SimpleNamespace
 
-from checks import expect_sleep
+from checks import expect_sleep, in_some_try
 
 from .pairs import opened
 from .stalled_line import OnTerminal
@@ -106,29 +106,45 @@ def check_rows_after_resize(folder):
     expect(any(offsets), "this test is wrong: each window begins with a line")
 
 
+def look_round(session):
+    """Looks at some pages of 20,000 numbered lines, one after another, and last at the end."""
+    session.wait_for("0000010 ")
+    session.wait_for_quiet()
+    for last in (30, 45, 60):
+        session.keys("NPage")
+        session.wait_for(f"{last:07} ")
+        session.wait_for_quiet()
+    session.keys("PPage")
+    session.wait_for("0000036 ")
+    session.wait_for_quiet()
+    session.command("10000")
+    session.wait_for("0009999 ")
+    session.wait_for_quiet()
+    session.keys("C-End")
+    session.wait_for("0019999 ")
+    session.wait_for_quiet()
+
+
 def check_large(folder):
-    """A file of 1,000,000 runes: only what is looked at crosses."""
+    """A file of 1,000,000 runes: only what is looked at crosses, until some seconds pass without a key. No key makes it longer."""
     lines = [f"{number:07} {'.' * 41}\n" for number in range(20_000)]
     (path,) = made(folder, a="".join(lines))
     expect(path.stat().st_size == 1_000_000, "this test is wrong")
+
+    def expect_few():
+        with Session(folder, "a.txt") as session:
+            session.status_file.unlink(missing_ok=True)
+            look_round(session)
+            down = session.bytes_down()
+            expect(down < 20_000, f"{down} bytes crossed")
+            session.leave()
+
+    in_some_try(expect_few)
     with Session(folder, "a.txt") as session:
+        session.status_file.unlink(missing_ok=True)
         session.wait_for("0000010 ")
-        session.wait_for_quiet()
-        for last in (30, 45, 60):
-            session.keys("NPage")
-            session.wait_for(f"{last:07} ")
-            session.wait_for_quiet()
-        session.keys("PPage")
-        session.wait_for("0000036 ")
-        session.wait_for_quiet()
-        session.command("10000")
-        session.wait_for("0009999 ")
-        session.wait_for_quiet()
         session.keys("C-End")
         session.wait_for("0019999 ")
-        session.wait_for_quiet()
-        down = session.bytes_down()
-        expect(down < 20_000, f"{down} bytes crossed")
         session.type("x")
         session.wait_for("more than 1,000,000 characters")
         session.keys(*["S-Left"] * 8)
