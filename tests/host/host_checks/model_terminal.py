@@ -179,6 +179,5 @@ def check_second_end(folder):
             second.message(SESSION)
             second.ask(EXIT, b"", EXITED)
             expect_equal(second.message(ENDED)["n"], 0, "the status at the end")
-            second.put(ACKNOWLEDGEMENT, struct.pack(">Q", second.came))
             ending = subprocess.run([SAMHOST, "--end", second.id[:8].hex()], cwd=folder, env=second.environment, stderr=subprocess.DEVNULL)
             expect(ending.returncode in (0, 7), f"the status of --end is {ending.returncode}")  # it may be gone: all was acknowledged
