@@ -30,14 +30,17 @@ def processes_of(name, tracer):
 
 
 def kill_all(session):
-    """Kills the relay that runs now and the samhost of its session, and then what traces them, which may not have begun them yet."""
+    """Kills the relay that runs now and the samhost of its session, and then what traces them, which may not have begun them yet. One that
+    is about to end has no words any more, and its socket still: a relay that meets it ends at once, and the next one is not traced."""
+    found = set()
 
     def is_gone():
         numbers = processes_of(session.name, session.process.pid)
+        found.update(numbers)
         for number in numbers:
             with contextlib.suppress(ProcessLookupError):
                 os.kill(number, signal.SIGKILL)
-        return not numbers
+        return not numbers and not any(map(is_running, found))
 
     wait_until(is_gone, "they still run")
     session.process.kill()
