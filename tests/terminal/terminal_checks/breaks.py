@@ -18,8 +18,8 @@ from .model import Model
 from .pairs import LONG as MANY_LINES
 from .pairs import Line, in_a_small_window, loads_of, opened, with_line
 from .stalled_line import MOST_FOR_A_KEY
-from .support import COMMAND_WINDOW, LINK, READ_AFTER, SAMHOST, SAMHOST_WORD, SECONDS, STATE, Session, expect, host_that, made, wait_for_text
-from .support import wait_until
+from .support import COMMAND_WINDOW, LINK, READ_AFTER, SAMHOST, SAMHOST_WORD, SECONDS, STATE, Session, expect, host_that, made
+from .support import wait_for_text, wait_until
 
 MOST_LOADED = 30_000  # runes at once
 LINES = [f"line {number} {'x' * (number * 7 % 60)}\n" for number in range(1, 1501)]
@@ -548,7 +548,7 @@ def check_open_while_the_line_breaks(folder):
             session.type("bee.txt")
             session.keys("Enter")
             session.type("x")
-            session.wait_for("held 1")
+            wait_until(session.held, "nothing waits")  # Enter may wait, too
             broken = session.break_line()
         session.wait_for_another_line(broken)
         session.wait_for("xbee")

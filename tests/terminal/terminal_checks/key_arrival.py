@@ -302,7 +302,7 @@ def check_ahead_of_waiting_keys(folder):
         session.wait_for_quiet()
         with session.stopped_host():
             session.keys("End", "Z", "Y")
-            session.wait_for("held 2")  # text that comes together is one
+            wait_until(session.held, "nothing waits: this test is wrong")
             session.keys("F1")
             session.wait_for("shows these keys")
             session.keys("Down", "q")
